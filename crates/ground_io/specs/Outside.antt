@@ -1,0 +1,18 @@
+-- What an object over std or a socket shows.
+use Rattle.std.specs.Prelude.{◌-◌, ℕ, List, length, take, Option}
+use Rattle.std.specs.Option.{option_map}
+
+-- a reader of std, and the count of its faults
+pub record ReaderView (R : Type 0) : Type 0 where
+  pub inner : R
+  pub faults : ℕ
+
+-- a writer of std, the count of its faults, and how many of its last bytes a failed flush left behind
+pub record WriterView (W : Type 0) : Type 0 where
+  pub inner : W
+  pub faults : ℕ
+  pub unflushed : ℕ
+
+-- known bytes without the last n
+abbrev pub without_last : ℕ → Option (List ℕ) → Option (List ℕ)
+without_last n known = option_map (λ xs. take (length xs - n) xs) known
