@@ -6,7 +6,7 @@ use Rattle.ground_model.specs.declared.facet.Facet.{Facet}
 use Rattle.ground_model.specs.declared.piece.Piece.{Piece}
 use Rattle.ground_model.specs.Place.{Coords}
 use Rattle.ground_model.specs.Tri.{Triple, is_facet, is_facet_at, facet_with, facets}
-use Rattle.ground_model.specs.Loops.{facet_at, facets_on, facets_from, facets_by_loops}
+use Rattle.ground_model.specs.Loops.{facet_at, facets_from, facets_by_loops}
 
 map_both : {X Y : Type 0} (g : X → Y) (xs ys : List X) → map g (xs ++ ys) ≡ map g xs ++ map g ys
 map_both g [] ys = refl

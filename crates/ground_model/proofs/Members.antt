@@ -1,5 +1,5 @@
 -- A facet is among those of a content exactly where its own test passes.
-use Rattle.std.proofs.Common.{◌≡◌, ℕ, refl, sym, ap, ◌∙◌, List, [], ◌∷◌, ◌++◌, Bool, true, false, Some, None}
+use Rattle.std.proofs.Common.{◌≡◌, refl, sym, ap, ◌∙◌, List, [], ◌∷◌, ◌++◌, Bool, true, false, Some, None}
 use Rattle.std.specs.Prelude.{◌&&◌, ◌||◌, Option, if◌then◌else◌, nat_eq}
 use Rattle.std.specs.List.{list_any, cons_option, flat_map, filter_map}
 use Rattle.ground_model.specs.declared.facet.Facet.{Facet}

@@ -15,8 +15,11 @@ mod mark;
 mod piece;
 mod place;
 mod refusal;
+mod relief;
 mod slope;
 mod station;
+#[cfg(test)]
+mod tests;
 mod volume;
 
 pub use chain::{Chain, Chains};
@@ -32,6 +35,7 @@ pub use mark::Mark;
 pub use piece::Piece;
 pub use place::{Level, Place};
 pub use refusal::Refusal;
+pub use relief::Relief;
 pub use slope::Slope;
 pub use station::{Station, Stations};
 pub use volume::Volume;
