@@ -1,0 +1,2 @@
+pub mod FreeChain
+pub mod Slots
