@@ -1,0 +1,5 @@
+pub mod Sizes
+pub mod Signs
+pub mod Determinant
+pub mod Places
+pub mod Untied

@@ -1,0 +1,24 @@
+//! Exact predicates over the places of a surface: each test is its definition, ties included.
+//! They never ask for memory, for a mesh or for floating point.
+#![tactic(auto)]
+
+mod circle;
+mod crossing;
+mod laws;
+mod sides;
+mod sign;
+mod triangle;
+mod vector;
+mod wall;
+
+pub use circle::in_circle;
+pub use crossing::crosses;
+pub use ground_model::Corner;
+pub use laws::tie_law;
+pub use sides::{exact_side, side};
+pub use sign::Sign;
+pub use triangle::{holds, triangle_holds};
+pub use wall::walled;
+
+#[cfg(test)]
+mod tests;
