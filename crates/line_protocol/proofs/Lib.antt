@@ -1,0 +1,11 @@
+pub mod Appended
+pub mod Digits
+pub mod Faults
+pub mod Scans
+pub mod Forms
+pub mod Keywords
+pub mod Numerals
+pub mod PlaceLists
+pub mod Rows
+pub mod Splitting
+pub mod Tables

@@ -1,0 +1,24 @@
+//! The line protocol: what a line asks, and what is written for a reply.
+//! It never asks what a surface is, nor where lines come from.
+#![tactic(auto)]
+
+mod fault;
+mod figure;
+mod law;
+mod line_edit;
+mod number;
+mod place;
+mod put;
+mod read;
+mod reply;
+mod request;
+#[cfg(test)]
+mod tests;
+mod text;
+mod words;
+
+pub use law::grammar_law;
+pub use put::put_reply;
+pub use read::{LineFault, read_request};
+pub use reply::Reply;
+pub use request::Request;

@@ -1,0 +1,36 @@
+//! Replies.
+
+use ground_model::{Cuts, Level, LineId, Mark, Refusal, Volume};
+
+/// What a session answers. The first number is the front that the reply speaks of, where it
+/// speaks of one.
+#[derive(Drop)]
+pub enum Reply {
+    /// The newest version is held.
+    Held(u32),
+    /// An edit is planned at this front, on so many marks.
+    Planned(u32, u32),
+    /// An edit was made, and with a new line its number was given.
+    Done(u32, Option<LineId>),
+    /// This mark of the plan has changed.
+    Conflict(u32, Mark),
+    Refused(u32, Refusal),
+    /// The level at a place. None outside the kept facets.
+    Level(u32, Option<Level>),
+    Contour(u32, Cuts),
+    Volume(u32, Volume),
+    /// The numbers of points and of live lines.
+    Stat(u32, u32, u32),
+    /// The document follows, of so many bytes.
+    Export(u32, u64),
+    Bye,
+    /// The line is no request; the number is the place of the first byte that no request allows.
+    Syntax(u32),
+    /// A place or a level is outside its limit.
+    Range,
+    /// A commit without a plan.
+    NoPlan,
+    Memory,
+    /// The request is none that this program answers.
+    Unbuilt,
+}
