@@ -1,0 +1,5 @@
+pub mod Journal
+pub mod Seat
+pub mod Rule
+pub mod Steps
+pub mod Insides
