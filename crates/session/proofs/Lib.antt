@@ -1,0 +1,12 @@
+pub mod Consumed
+pub mod Ends
+pub mod Journals
+pub mod Lengths
+pub mod LineReplies
+pub mod Orders
+pub mod Points
+pub mod Quits
+pub mod Reliefs
+pub mod Sessions
+pub mod Streams
+pub mod Turns

@@ -1,0 +1,164 @@
+-- Lines that ask to quit, and the farewell that answers them.
+use Rattle.std.proofs.Common.{◌≡◌, ℕ, suc, zero, inl, inr, Bool, true, false, cond, ◌||◌, List, [], ◌∷◌, ◌++◌, length, take, Option, None, Some, refl, sym, ap, ◌∙◌, arith, length-append}
+use Rattle.std.specs.Prelude.{option_map}
+use Rattle.std.specs.List.{slice_get}
+use Rattle.ground_model.specs.declared.edit.Edit.{Edit}
+use Rattle.ground_model.specs.declared.edit.Edit.TheVariants.{AddPoint, RemovePoint, SetLevel, AddLine, RemoveLine}
+use Rattle.ground_model.specs.declared.entry.Entry.{Entry}
+use Rattle.ground_model.specs.declared.refusal.Refusal.{Refusal}
+use Rattle.ground_model.specs.History.{content_of}
+use Rattle.ground_model.specs.Refusal.{refusal}
+use Rattle.ground_model.specs.Answer.{by_refusal}
+use Rattle.ground_model.proofs.Newest.{answer-newest}
+use Rattle.line_protocol.specs.declared.reply.Reply.{Reply}
+use Rattle.line_protocol.specs.declared.request.Request.{Request}
+use Rattle.line_protocol.specs.declared.request.Request.TheVariants as asks
+use Rattle.line_protocol.specs.Spoken.{Spoken, Sync, Plan, Commit, Apply, Level, Contour, Volume, Stat, Export, Quit}
+use Rattle.line_protocol.specs.Grammar.{spoken}
+use Rattle.line_protocol.specs.Within.{request_within, edit_within, place_within, level_within}
+use Rattle.session.specs.Setting.{Setting}
+use Rattle.session.specs.Told.{Told, told_nothing}
+use Rattle.session.specs.Table.{to_edit, IsApplied, IsReplyWithin}
+use Rattle.session.specs.Transcript.{may_lack_memory, AnswersLine, QuitIsLast}
+use Rattle.session.specs.Talk.{asks_quit, is_quit, up_to_quit, has_quit}
+use Rattle.session.specs.Talking.{is_bye, ServesLine}
+use Rattle.session.proofs.Turns.{get_more}
+
+or_none : (a b : Bool) → a || b ≡ false → (a ≡ false) × (b ≡ false)
+or_none true b e = cc
+or_none false b e = (refl, e)
+
+-- ---- lines up to one that asks to quit
+
+pub up_to_quit_at : (ls : List (List ℕ)) (l : List ℕ) (ms : List (List ℕ)) → has_quit ls ≡ false → is_quit l ≡ true → up_to_quit (ls ++ l ∷ ms) ≡ ls ++ l ∷ []
+up_to_quit_at [] l ms none quits = rw quits refl
+up_to_quit_at (x ∷ ls) l ms none quits =
+    let each = or_none (is_quit x) (has_quit ls) none in
+    rw each.0 (ap (λ zs. x ∷ zs) (up_to_quit_at ls l ms each.1 quits))
+
+pub up_to_quit_front : (ls : List (List ℕ)) (l : List ℕ) (ms : List (List ℕ)) → has_quit ls ≡ false → ls ++ l ∷ [] ≡ take (suc (length ls)) (up_to_quit (ls ++ l ∷ ms))
+up_to_quit_front [] l ms none = elim (is_quit l) as (λ t. l ∷ [] ≡ take (suc 0) (cond t (l ∷ []) (l ∷ up_to_quit ms))) [ true ↦ refl | false ↦ refl ]
+up_to_quit_front (x ∷ ls) l ms none =
+    let each = or_none (is_quit x) (has_quit ls) none in
+    rw each.0 (ap (λ zs. x ∷ zs) (up_to_quit_front ls l ms each.1))
+
+pub has_quit_none : (ls : List (List ℕ)) → has_quit ls ≡ false → up_to_quit ls ≡ ls
+has_quit_none [] none = refl
+has_quit_none (x ∷ ls) none =
+    let each = or_none (is_quit x) (has_quit ls) none in
+    rw each.0 (ap (λ zs. x ∷ zs) (has_quit_none ls each.1))
+
+pub has_quit_at : (ls : List (List ℕ)) (l : List ℕ) (ms : List (List ℕ)) → is_quit l ≡ true → has_quit (ls ++ l ∷ ms) ≡ true
+has_quit_at [] l ms quits = rw quits refl
+has_quit_at (x ∷ ls) l ms quits = rw (has_quit_at ls l ms quits) (or_true (is_quit x))
+  where
+    or_true : (b : Bool) → b || true ≡ true
+    or_true true = refl
+    or_true false = refl
+
+pub no_quit_more : (ls : List (List ℕ)) (l : List ℕ) → has_quit ls ≡ false → is_quit l ≡ false → has_quit (ls ++ l ∷ []) ≡ false
+no_quit_more [] l none stays = rw stays refl
+no_quit_more (x ∷ ls) l none stays =
+    let each = or_none (is_quit x) (has_quit ls) none in
+    rw each.0 (no_quit_more ls l each.1 stays)
+
+-- no line among these asks to quit
+none_asks : (ls : List (List ℕ)) (k : ℕ) (l : List ℕ) → has_quit ls ≡ false → slice_get ls k ≡ Some l → spoken l ≡ Some Quit → ⊥
+none_asks [] k l none there asks = cc
+none_asks (x ∷ ls) zero l none there asks =
+    let each = or_none (is_quit x) (has_quit ls) none in
+    quits x l each.0 (some_is x l there) asks
+  where
+    some_is : (x y : List ℕ) → Some x ≡ Some y → x ≡ y
+    some_is x y e = cc
+
+    quits : (x l : List ℕ) → is_quit x ≡ false → x ≡ l → spoken l ≡ Some Quit → ⊥
+    quits x l stays same asks = true_false (sym (rw (same, asks) at stays))
+      where
+        true_false : false ≡ true → ⊥
+        true_false e = cc
+none_asks (x ∷ ls) (suc k) l none there asks = none_asks ls k l (or_none (is_quit x) (has_quit ls) none).1 there asks
+
+pub quit_is_none : (ls : List (List ℕ)) → has_quit ls ≡ false → QuitIsLast ls
+quit_is_none ls none k l there asks = absurd (none_asks ls k l none there asks)
+
+pub quit_is_last : (ls : List (List ℕ)) (last : List ℕ) → has_quit ls ≡ false → QuitIsLast (ls ++ last ∷ [])
+quit_is_last ls last none k l there asks =
+    elim (get_more ls last l k there) [
+      | inl before ↦ absurd (none_asks ls k l none before asks)
+      | inr here ↦ rw (length-append ls (last ∷ [])) (omega (arith, here.0))
+    ]
+
+-- ---- the farewell comes exactly where a line asks to quit
+
+bye_edit : (h : List Entry) (e : Edit) (cause : Option Refusal) → is_bye (to_edit (by_refusal h e cause)) ≡ false
+bye_edit h e None = refl
+bye_edit h e (Some cause) = refl
+
+bye_applied : (set : Setting) (h : List Entry) (e : Edit) (reply : Reply) → IsApplied set h e reply → is_bye reply ≡ false
+bye_applied set h (AddPoint p z) reply is = rw (is ∙ ap to_edit (answer-newest set.limits h (AddPoint p z))) (bye_edit h (AddPoint p z) (refusal (content_of h) (length h) set.limits (AddPoint p z)))
+bye_applied set h (RemovePoint p) reply is = rw is refl
+bye_applied set h (SetLevel p z) reply is = rw is refl
+bye_applied set h (AddLine kind ps) reply is = rw is refl
+bye_applied set h (RemoveLine id) reply is = rw is refl
+
+asks_bye : Option Request → Bool
+asks_bye (Some asks.Quit) = true
+asks_bye request = false
+
+bye_request : (set : Setting) (h : List Entry) (told : Told) (r : Option Request) (reply : Reply) → IsReplyWithin set h told r reply → is_bye reply ≡ asks_bye r
+unfolding asks_bye
+bye_request set h told None reply is = rw is refl
+bye_request set h told (Some (asks.Apply e)) reply is = bye_applied set h e reply is
+bye_request set h told (Some asks.Stat) reply is = rw is refl
+bye_request set h told (Some asks.Quit) reply is = rw is refl
+bye_request set h told (Some asks.Sync) reply is = rw is refl
+bye_request set h told (Some (asks.Plan e)) reply is = rw is refl
+bye_request set h told (Some asks.Commit) reply is = rw is refl
+bye_request set h told (Some (asks.Level p)) reply is = rw is refl
+bye_request set h told (Some (asks.Contour z)) reply is = rw is refl
+bye_request set h told (Some (asks.Volume z)) reply is = rw is refl
+bye_request set h told (Some asks.Export) reply is = rw is refl
+
+no_bye : {X : Type 0} (f : X → Request) (found : Option X) → ((x : X) → asks_bye (Some (f x)) ≡ false) → asks_bye (option_map f found) ≡ false
+unfolding asks_bye
+no_bye f None other = refl
+no_bye f (Some x) other = other x
+
+-- only a line that asks to quit is that request
+within_bye : (set : Setting) (s : Spoken) → asks_bye (request_within set.head.origin s) ≡ asks_quit (Some s)
+unfolding asks_bye request_within
+within_bye set Sync = refl
+within_bye set (Plan e) = no_bye asks.Plan (edit_within set.head.origin e) (λ x. refl)
+within_bye set Commit = refl
+within_bye set (Apply e) = no_bye asks.Apply (edit_within set.head.origin e) (λ x. refl)
+within_bye set (Level p) = no_bye asks.Level (place_within set.head.origin p) (λ x. refl)
+within_bye set (Contour z) = no_bye asks.Contour (level_within z) (λ x. refl)
+within_bye set (Volume z) = no_bye asks.Volume (level_within z) (λ x. refl)
+within_bye set Stat = refl
+within_bye set Export = refl
+within_bye set Quit = refl
+
+lacking_stays : (set : Setting) (s : Spoken) → may_lack_memory s (request_within set.head.origin s) ≡ true → false ≡ asks_quit (Some s)
+unfolding request_within
+lacking_stays set Sync h = refl
+lacking_stays set (Plan e) h = refl
+lacking_stays set Commit h = refl
+lacking_stays set (Apply e) h = refl
+lacking_stays set (Level p) h = refl
+lacking_stays set (Contour z) h = refl
+lacking_stays set (Volume z) h = refl
+lacking_stays set Stat h = refl
+lacking_stays set Export h = refl
+lacking_stays set Quit h = cc
+
+bye_line : (set : Setting) (h : List Entry) (told : Told) (line : List ℕ) (s : Option Spoken) (reply : Reply) → AnswersLine set h told line s reply → is_bye reply ≡ asks_quit s
+bye_line set h told line None reply a = rw a.2 refl
+bye_line set h told line (Some s) reply a =
+    elim a [
+      | inl is ↦ bye_request set h told (request_within set.head.origin s) reply is ∙ within_bye set s
+      | inr lacks ↦ ap is_bye lacks.1 ∙ lacking_stays set s lacks.0
+    ]
+
+pub bye_is : (set : Setting) (author : ℕ) (old new : List Entry) (line : List ℕ) (reply : Reply) → ServesLine set author old new line reply → is_bye reply ≡ is_quit line
+bye_is set author old new line reply a = bye_line set old told_nothing line (spoken line) reply (a.is told_nothing)

@@ -1,0 +1,211 @@
+-- The relief of a content that has points alone.
+use Rattle.std.proofs.Common.{◌≡◌, ℕ, zero, suc, ◌<◌, ◌^◌, refl, sym, ap, ◌∙◌, arith, List, [], ◌∷◌, Bool, true, false, cond, length, get_or}
+use Rattle.std.specs.Prelude.{ℤ, pos, map, All, IsTrue, ◌&&◌, ◌||◌, Option, unwrap_or, nat_lt, count_by}
+use Rattle.std.specs.List.{filter, flat_map, list_any}
+use Rattle.std.specs.List.Sorted.{IsStrictlySortedBy}
+use Rattle.std.specs.declared.cmp.Ordering.{Ordering}
+use Rattle.std.specs.declared.cmp.Ordering.TheVariants.{Less, Equal}
+use Rattle.std.specs.Ordering.{ordering_then, on, then_cmp}
+use Rattle.std.specs.FinMap as finmap
+use Rattle.std.proofs.lemmas.Cmp.{tied_itself}
+use Rattle.std.proofs.lemmas.Bool.Decides.{Decides-int_eq}
+use Rattle.std.proofs.lemmas.List.Elements.{All-from_recursion, All-map}
+use Rattle.std.proofs.lemmas.List.Kept.{IsStrictlySortedBy-filter}
+use Rattle.ground_model.specs.declared.facet.Facet.{Facet}
+use Rattle.ground_model.specs.declared.piece.Piece.{Piece}
+use Rattle.ground_model.specs.Place.{Coords, place_cmp, is_before, is_same}
+use Rattle.ground_model.specs.Side.{is_left}
+use Rattle.ground_model.specs.Line.{Segment, pairs}
+use Rattle.ground_model.specs.Content.{Content, points_of, lines_of, level_of, count, pieces}
+use Rattle.ground_model.specs.Tri.{Triple, triples, is_empty, is_facet, is_facet_at, facet_with, facets, is_crossed_by_none, is_walled_off}
+use Rattle.ground_model.specs.Kept.{is_in_outer, is_outside_voids, is_kept, kept}
+use Rattle.ground_model.specs.Slope.{slope_of, relief}
+use Rattle.ground_model.proofs.Contents.{places_total}
+use Rattle.ground_model.proofs.Ties.{same_of_is_same}
+use Rattle.measures.specs.SlopeList.{slope_cmp, level_in, IsRelief}
+use Rattle.session.specs.Stores.{slope_by}
+use Rattle.session.proofs.Orders.{each-always, each-implied, each-map, each-flat_map, each-filter, sorted-map, sorted-implied, sorted-flat_map}
+
+-- ---- the order of triples
+
+triple_cmp : Triple → Triple → Ordering
+triple_cmp = then_cmp (on (λ t. t.0) place_cmp) (then_cmp (on (λ t. t.1.0) place_cmp) (on (λ t. t.1.1) place_cmp))
+
+then_less : (x y : Ordering) → x ≡ Less → ordering_then x y ≡ Less
+then_less x y e = rw e refl
+
+then_tied : (x y : Ordering) → x ≡ Equal → y ≡ Less → ordering_then x y ≡ Less
+then_tied x y e l = rw e l
+
+same_cmp : (p q x y : Coords) → p ≡ x → q ≡ y → place_cmp p q ≡ place_cmp x y
+same_cmp p q x y e f = ap (λ k. place_cmp k q) e ∙ ap (place_cmp x) f
+
+tied : (p : Coords) → place_cmp p p ≡ Equal
+tied p = tied_itself places_total p
+
+module _ (points : List Coords) (sorted : IsStrictlySortedBy place_cmp points) where
+  on_edge : (a b : Coords) → IsStrictlySortedBy triple_cmp (map (λ c. (a, (b, c))) points)
+  unfolding triple_cmp
+  on_edge a b = sorted-map triple_cmp (λ c. (a, (b, c))) points (sorted-implied place_cmp (λ c d. triple_cmp (a, (b, c)) (a, (b, d))) (λ c d l. then_tied (place_cmp a a) _ (tied a) (then_tied (place_cmp b b) _ (tied b) l)) points sorted)
+
+  from_corner : (a : Coords) → IsStrictlySortedBy triple_cmp (flat_map (λ b. map (λ c. (a, (b, c))) points) points)
+  unfolding triple_cmp
+  from_corner a =
+      sorted-flat_map place_cmp triple_cmp (λ b t. (t.0 ≡ a) × (t.1.0 ≡ b)) (λ b. map (λ c. (a, (b, c))) points) (on_edge a)
+      (λ b. each-map (λ t. (t.0 ≡ a) × (t.1.0 ≡ b)) (λ c. (a, (b, c))) points (each-always (λ c. (a ≡ a) × (b ≡ b)) (λ c. (refl, refl)) points))
+      (λ b d t u l m n. then_tied (place_cmp t.0 u.0) _ (same_cmp t.0 u.0 a a m.0 n.0 ∙ tied a) (then_less (place_cmp t.1.0 u.1.0) _ (same_cmp t.1.0 u.1.0 b d m.1 n.1 ∙ l)))
+      points sorted
+
+  triples-sorted : IsStrictlySortedBy triple_cmp (triples points)
+  unfolding triple_cmp
+  triples-sorted =
+      sorted-flat_map place_cmp triple_cmp (λ a t. t.0 ≡ a) (λ a. flat_map (λ b. map (λ c. (a, (b, c))) points) points) from_corner
+      (λ a. each-flat_map (λ t. t.0 ≡ a) (λ b. map (λ c. (a, (b, c))) points) (λ b. each-map (λ t. t.0 ≡ a) (λ c. (a, (b, c))) points (each-always (λ c. a ≡ a) (λ c. refl) points)) points)
+      (λ a d t u l m n. then_less (place_cmp t.0 u.0) _ (same_cmp t.0 u.0 a d m n ∙ l))
+      points sorted
+
+-- ---- facets are counterclockwise
+
+left_by : (x y l e k w : Bool) → ((x && y && l) && e && k && w) ≡ true → l ≡ true
+left_by true true true e k w h = refl
+left_by true true false e k w h = h
+left_by true false l e k w h = cc
+left_by false y l e k w h = cc
+
+left_of : (points : List Coords) (ps : List Piece) (a b c : Coords) → is_facet points ps a b c ≡ true → is_left a b c ≡ true
+unfolding is_facet
+left_of points ps a b c h = left_by (is_before a b) (is_before a c) (is_left a b c) (is_empty points a b c) (is_crossed_by_none ps a b && is_crossed_by_none ps b c && is_crossed_by_none ps c a) (is_walled_off points ps a b c) h
+
+-- ---- each corner has one level
+
+has_corner : Coords → Facet → Bool
+has_corner p f = is_same f.a p || is_same f.b p || is_same f.c p
+
+level_by : (x y z rest : Bool) (u v w r k : ℤ) → (x ≡ true → k ≡ u) → (y ≡ true → k ≡ v) → (z ≡ true → k ≡ w) → (rest ≡ true → k ≡ r) → ((x || y || z) || rest) ≡ true → k ≡ cond x u (cond y v (cond z w r))
+level_by true y z rest u v w r k fu fv fw fr h = fu refl
+level_by false true z rest u v w r k fu fv fw fr h = fv refl
+level_by false false true rest u v w r k fu fv fw fr h = fw refl
+level_by false false false rest u v w r k fu fv fw fr h = fr h
+
+zero_or : (Coords → Option ℤ) → Coords → ℤ
+zero_or level_at p = unwrap_or (level_at p) (pos 0)
+
+level_in-is : (level_at : Coords → Option ℤ) (fs : List Facet) (p : Coords) → list_any (has_corner p) fs ≡ true → zero_or level_at p ≡ level_in (map (slope_by level_at) fs) p
+unfolding level_in has_corner zero_or
+level_in-is level_at [] p h = cc
+level_in-is level_at (f ∷ fs) p h =
+    level_by (is_same f.a p) (is_same f.b p) (is_same f.c p) (list_any (has_corner p) fs) (zero_or level_at f.a) (zero_or level_at f.b) (zero_or level_at f.c) (level_in (map (slope_by level_at) fs) p) (zero_or level_at p)
+    (λ e. ap (zero_or level_at) (sym (same_of_is_same f.a p e)))
+    (λ e. ap (zero_or level_at) (sym (same_of_is_same f.b p e)))
+    (λ e. ap (zero_or level_at) (sym (same_of_is_same f.c p e)))
+    (level_in-is level_at fs p) h
+
+any_at : {X : Type 0} (p : X → Bool) (xs : List X) (k : ℕ) (d : X) → k < length xs → p (get_or xs k d) ≡ true → list_any p xs ≡ true
+any_at p [] k d lt h = absurd (omega arith)
+any_at p (x ∷ xs) zero d lt h = ap (λ t. t || list_any p xs) h
+any_at p (x ∷ xs) (suc k) d lt h = or_true (p x) (list_any p xs) (any_at p xs k d (omega arith) h)
+  where
+    or_true : (s t : Bool) → t ≡ true → (s || t) ≡ true
+    or_true true t e = refl
+    or_true false t e = e
+
+is_same-refl : (p : Coords) → is_same p p ≡ true
+is_same-refl p =
+    let e = (Decides-int_eq p.e p.e).1 refl in
+    let n = (Decides-int_eq p.n p.n).1 refl in
+    (λ i. e i && n i)
+
+or_first : (x y z : Bool) → x ≡ true → (x || y || z) ≡ true
+or_first x y z e = rw e refl
+
+or_second : (x y z : Bool) → y ≡ true → (x || y || z) ≡ true
+or_second true y z e = refl
+or_second false y z e = rw e refl
+
+or_third : (x y z : Bool) → z ≡ true → (x || y || z) ≡ true
+or_third true y z e = refl
+or_third false true z e = refl
+or_third false false z e = e
+
+has_a : (f : Facet) → has_corner f.a f ≡ true
+unfolding has_corner
+has_a f = or_first (is_same f.a f.a) (is_same f.b f.a) (is_same f.c f.a) (is_same-refl f.a)
+
+has_b : (f : Facet) → has_corner f.b f ≡ true
+unfolding has_corner
+has_b f = or_second (is_same f.a f.b) (is_same f.b f.b) (is_same f.c f.b) (is_same-refl f.b)
+
+has_c : (f : Facet) → has_corner f.c f ≡ true
+unfolding has_corner
+has_c f = or_third (is_same f.a f.c) (is_same f.b f.c) (is_same f.c f.c) (is_same-refl f.c)
+
+one_level : (level_at : Coords → Option ℤ) (fs : List Facet) → All (λ s. (s.za ≡ level_in (map (slope_by level_at) fs) s.facet.a) × (s.zb ≡ level_in (map (slope_by level_at) fs) s.facet.b) × (s.zc ≡ level_in (map (slope_by level_at) fs) s.facet.c)) (map (slope_by level_at) fs)
+unfolding zero_or
+one_level level_at fs =
+    All-map (λ s. (s.za ≡ level_in (map (slope_by level_at) fs) s.facet.a) × (s.zb ≡ level_in (map (slope_by level_at) fs) s.facet.b) × (s.zc ≡ level_in (map (slope_by level_at) fs) s.facet.c)) (slope_by level_at) fs
+    (λ k d lt. (at k d lt (get_or fs k d).a (has_a (get_or fs k d)), at k d lt (get_or fs k d).b (has_b (get_or fs k d)), at k d lt (get_or fs k d).c (has_c (get_or fs k d))))
+  where
+    at : (k : ℕ) (d : Facet) → k < length fs → (p : Coords) → has_corner p (get_or fs k d) ≡ true → zero_or level_at p ≡ level_in (map (slope_by level_at) fs) p
+    at k d lt p h = level_in-is level_at fs p (any_at (has_corner p) fs k d lt h)
+
+-- Facets of points in order, with any levels, are a relief.
+pub facets-relief : (level_at : Coords → Option ℤ) (points : List Coords) (ps : List Piece) → IsStrictlySortedBy place_cmp points → length (map (slope_by level_at) (facets points ps)) < 2 ^ 32 → IsRelief (map (slope_by level_at) (facets points ps))
+unfolding facets triple_cmp
+facets-relief level_at points ps sorted few = record {
+  in_order = sorted-map slope_cmp (slope_by level_at) (facets points ps) (sorted-map (λ f g. slope_cmp (slope_by level_at f) (slope_by level_at g)) (facet_with ps) (filter (is_facet_at points ps) (triples points)) (IsStrictlySortedBy-filter triple_cmp (is_facet_at points ps) (triples points) (triples-sorted points sorted)));
+  turned = All-from_recursion (λ s. IsTrue (is_left s.facet.a s.facet.b s.facet.c)) (map (slope_by level_at) (facets points ps))
+      (each-map (λ s. IsTrue (is_left s.facet.a s.facet.b s.facet.c)) (slope_by level_at) (facets points ps)
+      (each-map (λ f. IsTrue (is_left f.a f.b f.c)) (facet_with ps) (filter (is_facet_at points ps) (triples points))
+      (each-implied (λ t. is_facet_at points ps t ≡ true) (λ t. is_left t.0 t.1.0 t.1.1 ≡ true) (λ t h. left_of points ps t.0 t.1.0 t.1.1 h) (filter (is_facet_at points ps) (triples points)) (each-filter (is_facet_at points ps) (triples points)))));
+  one_level = one_level level_at (facets points ps);
+  few = few;
+}
+
+pub relief-none : IsRelief []
+unfolding IsStrictlySortedBy
+relief-none = record {
+  in_order = tt;
+  turned = All-from_recursion (λ s. IsTrue (is_left s.facet.a s.facet.b s.facet.c)) [] tt;
+  one_level = All-from_recursion (λ s. (s.za ≡ level_in [] s.facet.a) × (s.zb ≡ level_in [] s.facet.b) × (s.zc ≡ level_in [] s.facet.c)) [] tt;
+  few = omega arith;
+}
+
+pub facets-none : [] ≡ facets [] []
+unfolding facets
+facets-none = refl
+
+-- ---- without lines
+
+no_length : {A : Type 0} (xs : List A) → length xs ≡ 0 → xs ≡ []
+no_length [] e = refl
+no_length (x ∷ xs) e = absurd (omega arith)
+
+no_lines_of : (c : Content) → finmap.len c.lines ≡ 0 → lines_of c ≡ []
+no_lines_of c none = ap (λ es. map (λ e. e.1) es) (no_length (finmap.entries c.lines) (sym (finmap.len-entries c.lines) ∙ none))
+
+no_count : (c : Content) → lines_of c ≡ [] → (p q : Coords) → count c p q ≡ 0
+unfolding count
+no_count c none p q = ap (count_by _) none
+
+none_counted : (count_at : Coords → Coords → ℕ) → ((p q : Coords) → count_at p q ≡ 0) → (xs : List Segment) → filter (λ (x : Piece). nat_lt 0 x.count) (map (λ pair. record { p = pair.0; q = pair.1; count = count_at pair.0 pair.1 }) xs) ≡ []
+none_counted count_at none [] = refl
+none_counted count_at none (x ∷ xs) = rw (none x.0 x.1) (none_counted count_at none xs)
+
+no_pieces : (c : Content) → lines_of c ≡ [] → pieces c ≡ []
+unfolding pieces
+no_pieces c none = none_counted (count c) (no_count c none) (pairs (points_of c))
+
+all_kept : {X : Type 0} (p : X → Bool) → ((x : X) → p x ≡ true) → (xs : List X) → filter p xs ≡ xs
+all_kept p h [] = refl
+all_kept p h (x ∷ xs) = rw (h x) (ap (λ k. x ∷ k) (all_kept p h xs))
+
+each_kept : (c : Content) → lines_of c ≡ [] → (f : Facet) → is_kept c f ≡ true
+unfolding is_kept is_in_outer is_outside_voids
+each_kept c none f = rw none refl
+
+-- Without lines each facet is kept, and there are no pieces.
+pub relief-points : (c : Content) → finmap.len c.lines ≡ 0 → relief c ≡ map (slope_by (level_of c)) (facets (points_of c) [])
+unfolding relief kept
+relief-points c none =
+    let lines = no_lines_of c none in
+    ap (map (slope_of c)) (all_kept (is_kept c) (each_kept c lines) (facets (points_of c) (pieces c)) ∙ ap (facets (points_of c)) (no_pieces c lines))
