@@ -1,0 +1,38 @@
+-- A session that never began, for want of memory.
+use Rattle.std.proofs.Common.{arith, ◌^◌, ◌<◌, ℕ, List, [], length, Option, refl}
+use Rattle.std.proofs.lemmas.List.Elements.{All-nil}
+use Rattle.ground_model.specs.declared.limits.Limits.{Limits}
+use Rattle.session.specs.Talk.{line_limit}
+use Rattle.session.specs.declared.conversation.Ended.TheVariants as ended
+use Rattle.session.proofs.Consumed.{consumes_none}
+use Rattle.session.proofs.Sessions.{talking_starts}
+use Rattle.session.proofs.Ends.{ends_memory}
+use Rattle.terrain_main.specs.declared.status.Status.TheVariants as statuses
+use Rattle.terrain_main.specs.Commands.{ground_head, RunsTalk}
+
+full : Limits
+full = record {
+  points = 2 ^ 20;
+  lines = 65535;
+  places = 65536;
+  vertices = 2 ^ 20;
+  log = 2 ^ 24;
+  points_in = omega arith;
+  lines_in = omega arith;
+  places_in = omega arith;
+  vertices_in = omega arith;
+  log_in = omega arith;
+}
+
+pub without_memory : (left written : Option (List ℕ)) → RunsTalk left left written written statuses.Memory
+unfolding full
+without_memory left written = record {
+  set = record { head = ground_head; limits = full };
+  ground = record { head = refl; limits = record { points = refl; lines = refl; places = refl; vertices = refl; log = refl } };
+  end = ended.Memory;
+  log = [];
+  is = refl;
+  session =
+      ends_memory (record { head = ground_head; limits = full }) 1 (2 ^ 40) [] [] [] left left written written (consumes_none left) (omega arith) (All-nil (λ (line : List ℕ). length line < line_limit))
+      (talking_starts (record { head = ground_head; limits = full }) 1 [] written (λ k x e. cc)) refl;
+}

@@ -1,0 +1,93 @@
+//! The commands of the program.
+
+ghost use Rattle.std.specs.Prelude.{◌≡◌, ◌↔◌, ◌^◌, List, true, false, IfOk};
+ghost use Rattle.ground_io.specs.Causes.{Rose};
+ghost use Rattle.ground_model.specs.declared.entry.Entry.{Entry};
+ghost use Rattle.session.specs.Stores.{setting};
+ghost use Rattle.session.specs.Talk.{Talk};
+ghost use Rattle.session.specs.declared.conversation.Ended.TheVariants as ended;
+ghost use Rattle.terrain_main.specs.Commands.{is_talk, IsEmptyGround, fault_line, RunsTalk, PutsLine};
+ghost use Rattle.terrain_main.specs.declared.status.Status.TheVariants.{Usage, ReadFault, WriteFault};
+
+use crate::status::Status;
+use ground_io::{Pair, Sink, Source, write_all};
+use ground_model::Limits;
+use ground_num::{Head, LinearUnit, Name, NameFault, Origin, Thousandths};
+use session::{Ended, Store, talk};
+use std::alloc::Global;
+
+/// The bytes that one session may read.
+const BUDGET: u64 = 1 << 40;
+
+fn is_talk_command(words: &[String]) -> bool
+    ensures { result ≡ is_talk words.now }
+{
+    match words {
+        [word] => word.as_str() == "talk",
+        _ => false,
+    }
+}
+
+// The surface of `talk`: empty, named `ground`, in metres, with the origin 0 0.
+fn empty_ground(alloc: Global) -> Result<Store, NameFault>
+    ensures { IfOk result IsEmptyGround }
+{
+    let head = Head {
+        name: Name::from_bytes(alloc, b"ground")?,
+        unit: LinearUnit::Meter,
+        origin: Origin {
+            n: Thousandths(0),
+            e: Thousandths(0),
+        },
+    };
+    Store::empty(alloc, head, Limits::FULL).map_err(NameFault::Memory)
+}
+
+// A session over the two streams, on this surface.
+fn talk_over<I: Source, O: Sink>(
+    alloc: Global,
+    store: &mut Store,
+    input: &mut I,
+    output: &mut O,
+) -> Ended
+    ensures session { (log : List Entry) × Talk (setting store.old) 1 store.old.log log (2 ^ 40) (I.left input.old) (I.left input.new) (O.written output.old) (O.written output.new) result }
+    ensures read_fault { result ≡ ended.ReadFault → Rose (I.read_faults input.old) (I.read_faults input.new) }
+    ensures write_fault { result ≡ ended.WriteFault → Rose (O.write_faults output.old) (O.write_faults output.new) }
+{
+    let mut link = Pair::new(input, output);
+    talk(alloc, store, &mut link, BUDGET)
+}
+
+// A session on the empty surface.
+fn run_talk<I: Source, O: Sink>(alloc: Global, input: &mut I, output: &mut O) -> Status
+    ensures talks { RunsTalk (I.left input.old) (I.left input.new) (O.written output.old) (O.written output.new) result }
+    ensures read_fault { result ≡ ReadFault → Rose (I.read_faults input.old) (I.read_faults input.new) }
+    ensures write_fault { result ≡ WriteFault → Rose (O.write_faults output.old) (O.write_faults output.new) }
+{
+    match empty_ground(alloc) {
+        Ok(mut store) => Status::of_session(talk_over(alloc, &mut store, input, output)),
+        Err(_) => Status::Memory,
+    }
+}
+
+/// Runs the command that the words are: `talk`, a session over the two streams on an empty
+/// surface. Any other words are `Usage`. It returns, whatever its source and sink do.
+pub fn run<I: Source, O: Sink>(
+    alloc: Global,
+    words: &[String],
+    input: &mut I,
+    output: &mut O,
+) -> Status
+    ensures usage { (result ≡ Usage) ↔ (is_talk words.now ≡ false) }
+    ensures fault_line { result ≡ Usage → PutsLine (O.written output.old) (O.written output.new) (O.write_faults output.old) (O.write_faults output.new) fault_line }
+    ensures unread { result ≡ Usage → input.new ≡ input.old }
+    ensures talks { is_talk words.now ≡ true → RunsTalk (I.left input.old) (I.left input.new) (O.written output.old) (O.written output.new) result }
+    ensures read_fault { result ≡ ReadFault → Rose (I.read_faults input.old) (I.read_faults input.new) }
+    ensures write_fault { result ≡ WriteFault → Rose (O.write_faults output.old) (O.write_faults output.new) }
+{
+    if is_talk_command(words) {
+        return run_talk(alloc, input, output);
+    }
+    let _ = write_all(output, b"fault usage\n");
+    Status::Usage
+}

@@ -1,0 +1,33 @@
+//! The terrain server's program: it makes the real objects, runs a command over them, and ends
+//! with its status.
+#![tactic(auto)]
+
+mod command;
+mod status;
+#[cfg(test)]
+mod tests;
+
+use command::run;
+use ground_io::{StdSink, StdSource};
+use std::env;
+use std::process::ExitCode;
+
+// The words of the command line, without the program's name. None where they can't be had, as
+// where one is no text.
+fn words_of_command(rt: &HostRuntime) -> Option<Vec<String>> {
+    let mut words = Vec::new(rt.alloc());
+    for word in env::args(rt).ok()?.skip(1) {
+        words.push(word).ok()?;
+    }
+    Some(words)
+}
+
+fn main(rt: HostRuntime) -> ExitCode {
+    let mut input = StdSource::new(rt.stdin());
+    let mut output = StdSink::new(rt.stdout());
+    let status = match words_of_command(&rt) {
+        Some(words) => run(rt.alloc(), words.as_slice(), &mut input, &mut output),
+        None => run(rt.alloc(), &[], &mut input, &mut output),
+    };
+    ExitCode::from(status.code())
+}

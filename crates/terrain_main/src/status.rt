@@ -1,0 +1,54 @@
+//! How the program ends.
+
+ghost use Rattle.std.specs.Prelude.{◌≡◌};
+ghost use Rattle.terrain_main.specs.Commands.{code_of, status_of};
+
+use session::Ended;
+
+/// A name for each exit status.
+#[derive(Clone, Copy, Debug, PartialEq, Eq)]
+pub enum Status {
+    /// The session ended by `quit` or by the end of its input, and all output was written.
+    Ok,
+    /// The words are no command. The fault line was written, or a beginning of it.
+    Usage,
+    ReadFault,
+    WriteFault,
+    Memory,
+    /// The session read all the bytes that one session may read.
+    Spent,
+    LongLine,
+    Cut,
+}
+
+impl Status {
+    /// The exit status.
+    pub fn code(self) -> u8
+        ensures { result ≡ code_of self }
+    {
+        match self {
+            Status::Ok => 0,
+            Status::Usage => 2,
+            Status::ReadFault => 4,
+            Status::WriteFault => 5,
+            Status::Memory => 6,
+            Status::Spent => 10,
+            Status::LongLine => 11,
+            Status::Cut => 12,
+        }
+    }
+
+    pub(crate) fn of_session(ended: Ended) -> Status
+        ensures { result ≡ status_of ended }
+    {
+        match ended {
+            Ended::Quit | Ended::End => Status::Ok,
+            Ended::Cut => Status::Cut,
+            Ended::LongLine => Status::LongLine,
+            Ended::Spent => Status::Spent,
+            Ended::ReadFault => Status::ReadFault,
+            Ended::WriteFault => Status::WriteFault,
+            Ended::Memory => Status::Memory,
+        }
+    }
+}
