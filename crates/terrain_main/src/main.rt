@@ -3,6 +3,8 @@
 #![tactic(auto)]
 
 mod command;
+#[cfg(test)]
+mod reply_tests;
 mod status;
 #[cfg(test)]
 mod tests;
