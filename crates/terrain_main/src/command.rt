@@ -12,9 +12,9 @@ ghost use Rattle.terrain_main.specs.declared.status.Status.TheVariants.{Usage, R
 use crate::status::Status;
 use ground_io::{Pair, Sink, Source, write_all};
 use ground_model::Limits;
-use ground_num::{Head, LinearUnit, Name, NameFault, Origin, Thousandths};
+use ground_num::{Head, LinearUnit, Name, Origin, Thousandths};
 use session::{Ended, Store, talk};
-use std::alloc::Global;
+use std::alloc::{AllocError, Global};
 
 /// The bytes that one session may read.
 const BUDGET: u64 = 1 << 40;
@@ -29,18 +29,21 @@ fn is_talk_command(words: &[String]) -> bool
 }
 
 // The surface of `talk`: empty, named `ground`, in metres, with the origin 0 0.
-fn empty_ground(alloc: Global) -> Result<Store, NameFault>
+fn empty_ground(alloc: Global) -> Result<Store, AllocError>
     ensures { IfOk result IsEmptyGround }
 {
+    let Ok(name) = Name::from_bytes(alloc, b"ground") else {
+        return Err(AllocError);
+    };
     let head = Head {
-        name: Name::from_bytes(alloc, b"ground")?,
+        name,
         unit: LinearUnit::Meter,
         origin: Origin {
             n: Thousandths(0),
             e: Thousandths(0),
         },
     };
-    Store::empty(alloc, head, Limits::FULL).map_err(NameFault::Memory)
+    Store::empty(alloc, head, Limits::FULL)
 }
 
 // A session over the two streams, on this surface.
