@@ -22,27 +22,24 @@ pub(crate) fn write_kid<T: Clone, P: Page<T>>(
     ensures ok { OnOk result (P.list (arc_value kid.new) ≡ slice_set (P.list (arc_value kid.old)) k value) }
     ensures err { OnErr result (P.list (arc_value kid.new) ≡ P.list (arc_value kid.old)) }
 {
+    if Arc::strong_count(kid) > 1 {
+        copy_kid(alloc, kid)?;
+    }
     match Arc::get_mut(kid) {
         Some(page) => page.set(k, value),
-        None => write_copy(alloc, kid, k, value),
+        None => Err(AllocError),
     }
 }
 
+/// Puts a copy in the place of a page that others share. Its own function, so that a write in place
+/// keeps nothing ready for it.
 #[cold]
 #[inline(never)]
-fn write_copy<T: Clone, P: Page<T>>(
-    alloc: Global,
-    kid: &mut Arc<P>,
-    k: u32,
-    value: T,
-) -> Result<(), AllocError>
-    requires there { k < length (P.list (arc_value kid.old)) }
+fn copy_kid<T: Clone, P: Page<T>>(alloc: Global, kid: &mut Arc<P>) -> Result<(), AllocError>
     requires clones { (x y : T) → T.is_clone x y → y ≡ x }
-    ensures ok { OnOk result (P.list (arc_value kid.new) ≡ slice_set (P.list (arc_value kid.old)) k value) }
-    ensures err { OnErr result (P.list (arc_value kid.new) ≡ P.list (arc_value kid.old)) }
+    ensures { P.list (arc_value kid.new) ≡ P.list (arc_value kid.old) }
 {
-    let mut page = kid.copy()?;
-    page.set(k, value)?;
+    let page = kid.copy()?;
     *kid = Arc::new(alloc, page)?;
     Ok(())
 }
@@ -59,28 +56,13 @@ pub(crate) fn push_kid<T: Clone, P: Page<T>>(
     ensures ok { OnOk result (P.list (arc_value kid.new) ≡ P.list (arc_value kid.old) ++ value ∷ []) }
     ensures err { OnErr result (P.list (arc_value kid.new) ≡ P.list (arc_value kid.old)) }
 {
+    if Arc::strong_count(kid) > 1 {
+        copy_kid(alloc, kid)?;
+    }
     match Arc::get_mut(kid) {
         Some(page) => page.push(value),
-        None => push_copy(alloc, kid, value),
+        None => Err(AllocError),
     }
-}
-
-#[cold]
-#[inline(never)]
-fn push_copy<T: Clone, P: Page<T>>(
-    alloc: Global,
-    kid: &mut Arc<P>,
-    value: T,
-) -> Result<(), AllocError>
-    requires fits { length (P.list (arc_value kid.old)) < P.room }
-    requires clones { (x y : T) → T.is_clone x y → y ≡ x }
-    ensures ok { OnOk result (P.list (arc_value kid.new) ≡ P.list (arc_value kid.old) ++ value ∷ []) }
-    ensures err { OnErr result (P.list (arc_value kid.new) ≡ P.list (arc_value kid.old)) }
-{
-    let mut page = kid.copy()?;
-    page.push(value)?;
-    *kid = Arc::new(alloc, page)?;
-    Ok(())
 }
 
 /// Whether the last page has room.

@@ -52,6 +52,7 @@ impl<T: Clone> Tree<T> {
         }
     }
 
+    #[inline(always)]
     pub(crate) fn set(&mut self, k: u32, value: T) -> Result<(), AllocError>
         requires there { k < length (items_of self.old) }
         requires clones { (x y : T) → T.is_clone x y → y ≡ x }

@@ -60,6 +60,7 @@ impl<T: Clone> PageVec<T> {
     }
 
     /// Writes the entry at `k`, in place on pages that nobody shares, and on copies of the others.
+    #[inline(always)]
     pub fn set<L: Ledger>(
         &mut self,
         k: u32,
