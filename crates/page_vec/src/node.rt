@@ -48,7 +48,7 @@ impl<T: Clone, P: Page<T>> Node<T, P> {
         ensures bound { IfOk result (λ n. length n ≤ P.room) }
     {
         let len = page.len();
-        let mut kids = Vec::new(alloc);
+        let mut kids = Vec::with_capacity(alloc, 64)?;
         kids.push(Arc::new(alloc, page)?)?;
         Ok(Node {
             kids,
