@@ -9,6 +9,32 @@ use crate::page::Page;
 use std::alloc::{AllocError, Global};
 use std::sync::Arc;
 
+/// Puts a copy in the place of a page that others share. A function of its own that takes no entry,
+/// so that a write in place keeps none ready for it.
+#[cold]
+#[inline(never)]
+fn copy_kid<T: Clone, P: Page<T>>(alloc: Global, kid: &mut Arc<P>) -> Result<(), AllocError>
+    requires clones { (x y : T) → T.is_clone x y → y ≡ x }
+    ensures { P.list (arc_value kid.new) ≡ P.list (arc_value kid.old) }
+{
+    let page = kid.copy()?;
+    *kid = Arc::new(alloc, page)?;
+    Ok(())
+}
+
+/// Makes a page its holder's alone, by a copy where others share it. Once that is done, no count can
+/// rise while the page is borrowed, so the changes below meet no `None`.
+#[inline(always)]
+fn own_kid<T: Clone, P: Page<T>>(alloc: Global, kid: &mut Arc<P>) -> Result<(), AllocError>
+    requires clones { (x y : T) → T.is_clone x y → y ≡ x }
+    ensures { P.list (arc_value kid.new) ≡ P.list (arc_value kid.old) }
+{
+    if Arc::strong_count(kid) > 1 {
+        return copy_kid(alloc, kid);
+    }
+    Ok(())
+}
+
 /// Writes one entry of a page, on a copy where others share the page.
 #[inline(always)]
 pub(crate) fn write_kid<T: Clone, P: Page<T>>(
@@ -22,26 +48,11 @@ pub(crate) fn write_kid<T: Clone, P: Page<T>>(
     ensures ok { OnOk result (P.list (arc_value kid.new) ≡ slice_set (P.list (arc_value kid.old)) k value) }
     ensures err { OnErr result (P.list (arc_value kid.new) ≡ P.list (arc_value kid.old)) }
 {
-    if Arc::strong_count(kid) > 1 {
-        copy_kid(alloc, kid)?;
-    }
+    own_kid(alloc, kid)?;
     match Arc::get_mut(kid) {
         Some(page) => page.set(k, value),
         None => Err(AllocError),
     }
-}
-
-/// Puts a copy in the place of a page that others share. Its own function, so that a write in place
-/// keeps nothing ready for it.
-#[cold]
-#[inline(never)]
-fn copy_kid<T: Clone, P: Page<T>>(alloc: Global, kid: &mut Arc<P>) -> Result<(), AllocError>
-    requires clones { (x y : T) → T.is_clone x y → y ≡ x }
-    ensures { P.list (arc_value kid.new) ≡ P.list (arc_value kid.old) }
-{
-    let page = kid.copy()?;
-    *kid = Arc::new(alloc, page)?;
-    Ok(())
 }
 
 /// Adds one entry to a page, on a copy where others share the page.
@@ -56,9 +67,7 @@ pub(crate) fn push_kid<T: Clone, P: Page<T>>(
     ensures ok { OnOk result (P.list (arc_value kid.new) ≡ P.list (arc_value kid.old) ++ value ∷ []) }
     ensures err { OnErr result (P.list (arc_value kid.new) ≡ P.list (arc_value kid.old)) }
 {
-    if Arc::strong_count(kid) > 1 {
-        copy_kid(alloc, kid)?;
-    }
+    own_kid(alloc, kid)?;
     match Arc::get_mut(kid) {
         Some(page) => page.push(value),
         None => Err(AllocError),
