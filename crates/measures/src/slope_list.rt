@@ -34,6 +34,14 @@ impl SlopeList {
     {
         SlopeList { slopes }
     }
+
+    /// The slopes in facet order.
+    pub fn as_slice(&self) -> &[Slope]
+        ensures slopes { result.now ≡ self.now }
+        ensures relief { IsRelief result.now }
+    {
+        self.slopes.as_slice()
+    }
 }
 
 impl Relief for SlopeList {

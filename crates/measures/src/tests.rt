@@ -231,6 +231,7 @@ fn a_list_has_each_slope_at_its_place(rt: HostRuntime) -> Result<(), Fail> {
     let pegs = [((0, 0), 7), ((3, 0), 8), ((0, 3), 9)];
     let relief = sole(&rt, rt.alloc(), pegs)?;
     assert_eq!(rt; relief.slots(), 1);
+    assert_eq!(rt; relief.as_slice().len(), 1);
     assert_eq!(rt; relief.slope(0).map(|s| s.facet), Some(facet(&rt, pegs)));
     assert!(rt; relief.slope(1).is_none());
     assert_eq!(rt;
