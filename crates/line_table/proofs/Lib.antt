@@ -1,3 +1,5 @@
+pub mod Maps
+pub mod Tables
 pub mod Along
 pub mod Segments
 pub mod Parts

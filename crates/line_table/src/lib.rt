@@ -3,5 +3,13 @@
 #![tactic(auto)]
 
 mod laws;
+mod line;
+mod lines;
+mod links;
+mod live;
 
 pub use laws::planar_law;
+pub use line::Line;
+pub use lines::Lines;
+pub use links::Links;
+pub use live::LiveLines;

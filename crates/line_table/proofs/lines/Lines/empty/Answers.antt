@@ -1,0 +1,5 @@
+use Rattle.line_table.proofs.Tables.{empty-view}
+use Rattle.line_table.proofs.lines.Lines.empty.Goals as goal
+
+pub returns : goal.returns
+returns c = empty-view c.new.result.entries c.new.ensures.empty

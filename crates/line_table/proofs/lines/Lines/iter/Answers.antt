@@ -1,0 +1,8 @@
+use Rattle.std.proofs.Common.{sym, ap, ◌∙◌}
+use Rattle.std.specs.FinMap as finmap
+use Rattle.line_table.specs.Table.{Table}
+use Rattle.line_table.proofs.Tables.{entries_of}
+use Rattle.line_table.proofs.lines.Lines.iter.Goals as goal
+
+pub returns : goal.returns
+returns c = c.new.ensures ∙ c.iter.ensures.rest ∙ sym (entries_of _ c.self.invariant.in_order) ∙ ap (λ (t : Table). finmap.entries t.lines) c.self.view_is

@@ -1,0 +1,8 @@
+use Rattle.std.proofs.Common.{sym, ap, ◌∙◌, length}
+use Rattle.std.specs.FinMap as finmap
+use Rattle.line_table.specs.Table.{Table}
+use Rattle.line_table.proofs.Tables.{entries_of}
+use Rattle.line_table.proofs.lines.Lines.len.Goals as goal
+
+pub returns-clause-len : goal.returns-clause-len
+returns-clause-len c = c.len.ensures.len ∙ sym (finmap.len-entries _ ∙ ap length (entries_of _ c.self.invariant.in_order)) ∙ ap (λ (t : Table). finmap.len t.lines) c.self.view_is
