@@ -1,5 +1,8 @@
 pub mod Maps
 pub mod Tables
+pub mod Searches
+pub mod Joined
+pub mod SelfCrossings
 pub mod Along
 pub mod Segments
 pub mod Parts

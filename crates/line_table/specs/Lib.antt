@@ -1,4 +1,5 @@
 pub mod Table
 pub mod Codes
 pub mod Crossings
+pub mod Joints
 pub mod Planar

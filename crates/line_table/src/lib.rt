@@ -2,12 +2,15 @@
 //! cross. It never asks for a triangulation.
 #![tactic(auto)]
 
+mod crossing;
 mod laws;
 mod line;
 mod lines;
 mod links;
 mod live;
+mod segment;
 
+pub use crossing::self_cross;
 pub use laws::planar_law;
 pub use line::Line;
 pub use lines::Lines;

@@ -1,0 +1,8 @@
+use Rattle.std.proofs.Common.{rules, tests, refl}
+use Rattle.std.proofs.lemmas.Iterator.Consumers.{YieldsList-from_first}
+use Rattle.std.proofs.lemmas.Iterator.Search.{any_from_yields_List}
+use Rattle.line_table.specs.Joints.{cross_over}
+use Rattle.line_table.proofs.crossing.crosses_any_over.Goals as goal
+
+pub returns : goal.returns
+returns c = any_from_yields_List (cross_over c.args.place c.args.s.now) _ _ _ c.any.ensures.ran (YieldsList-from_first (λ x. x) (λ links. links) c.args.links refl) (λ x b q k. search (rules, tests))
