@@ -3,11 +3,14 @@ pub mod Tables
 pub mod Searches
 pub mod Joined
 pub mod SelfCrossings
+pub mod NextPoints
+pub mod Rows
 pub mod Along
 pub mod Segments
 pub mod Parts
 pub mod Elements
 pub mod LinePieces
+pub mod EnoughPoints
 pub mod Crossings
 pub mod Causes
 pub mod Planar

@@ -8,6 +8,7 @@ mod line;
 mod lines;
 mod links;
 mod live;
+mod pieces;
 mod segment;
 
 pub use crossing::self_cross;
