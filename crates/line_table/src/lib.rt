@@ -17,3 +17,6 @@ pub use line::Line;
 pub use lines::Lines;
 pub use links::Links;
 pub use live::LiveLines;
+
+#[cfg(test)]
+mod tests;
