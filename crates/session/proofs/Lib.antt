@@ -1,4 +1,6 @@
+pub mod Causes
 pub mod Consumed
+pub mod Contents
 pub mod Ends
 pub mod Journals
 pub mod Lengths
@@ -7,6 +9,7 @@ pub mod Orders
 pub mod Points
 pub mod Quits
 pub mod Reliefs
+pub mod Removals
 pub mod Sessions
 pub mod Streams
 pub mod Turns

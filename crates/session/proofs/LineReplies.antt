@@ -1,13 +1,16 @@
 -- From what a request did to what its line did.
 use Rattle.std.proofs.Common.{◌≡◌, ℕ, inl, inr, true, List, Option, None, Some, refl, sym, ap, ◌∙◌}
-use Rattle.std.specs.Prelude.{ℤ, option_map, option_and_then, is_some}
+use Rattle.std.specs.Prelude.{option_map, option_and_then, is_some}
 use Rattle.ground_num.specs.declared.head.Origin.{Origin}
+use Rattle.ground_model.specs.declared.edit.Edit.{Edit}
 use Rattle.ground_model.specs.declared.edit.Edit.TheVariants as edits
+use Rattle.ground_model.specs.declared.line.LineId.{LineId}
 use Rattle.ground_model.specs.declared.line.LineKind.{LineKind}
 use Rattle.ground_model.specs.declared.entry.Entry.{Entry}
 use Rattle.ground_model.specs.declared.refusal.Refusal.{Refusal}
 use Rattle.ground_model.specs.Place.{Coords}
-use Rattle.ground_model.specs.Answer.{by_refusal}
+use Rattle.ground_model.specs.Answer.{by_refusal, given_number}
+use Rattle.ground_model.specs.History.{content_of}
 use Rattle.ground_model.proofs.Newest.{answer-newest}
 use Rattle.line_protocol.specs.declared.reply.Reply.{Reply}
 use Rattle.line_protocol.specs.declared.reply.Reply.TheVariants.{Done, Refused, Range, Memory}
@@ -85,18 +88,18 @@ memory_by set h told line (Some s) early = inr (early_lacks set.head.origin s cc
 pub memory_line : (set : Setting) (author : ℕ) (h : List Entry) (line : List ℕ) → option_map takes_memory_early (spoken line) ≡ Some true → ServesLine set author h h line Memory
 memory_line set author h line early = unserved set author h line Memory refl (λ told. memory_by set h told line (spoken line) early)
 
--- a point was added
-pub serves_done : (author : ℕ) (old new : StoreView) (p : Coords) (z : ℤ) (front : ℕ) → Applies author (edits.AddPoint p z) old new (applied.Done front) → Serves author old new (asks.Apply (edits.AddPoint p z)) (Done front None)
-serves_done author old new p z front a = record {
-  is = λ told. inl (sym (ap to_edit (answer-newest old.limits old.log (edits.AddPoint p z) ∙ ap (by_refusal old.log (edits.AddPoint p z)) a.0) ∙ ap (λ f. Done f None) (sym a.1)));
-  log = λ told. ap (λ store. store.log) a.2;
-  stays = ap setting a.2;
+-- an edit was made
+pub serves_done : (author : ℕ) (old new : StoreView) (edit : Edit) (front : ℕ) (line : Option LineId) → Applies author edit old new (applied.Done front line) → Serves author old new (asks.Apply edit) (Done front line)
+serves_done author old new edit front line a = record {
+  is = λ told. inl (sym (ap to_edit (answer-newest old.limits old.log edit ∙ ap (by_refusal old.log edit) a.0) ∙ ap (λ f. Done f (given_number (content_of old.log) edit)) (sym a.1) ∙ ap (Done front) (sym a.2)));
+  log = λ told. ap (λ store. store.log) a.3;
+  stays = ap setting a.3;
 }
 
--- a point was refused
-pub serves_refused : (author : ℕ) (old new : StoreView) (p : Coords) (z : ℤ) (front : ℕ) (cause : Refusal) → Applies author (edits.AddPoint p z) old new (applied.Refused front cause) → Serves author old new (asks.Apply (edits.AddPoint p z)) (Refused front cause)
-serves_refused author old new p z front cause a = record {
-  is = λ told. inl (sym (ap to_edit (answer-newest old.limits old.log (edits.AddPoint p z) ∙ ap (by_refusal old.log (edits.AddPoint p z)) a.0) ∙ ap (λ f. Refused f cause) (sym a.1)));
+-- an edit was refused
+pub serves_refused : (author : ℕ) (old new : StoreView) (edit : Edit) (front : ℕ) (cause : Refusal) → Applies author edit old new (applied.Refused front cause) → Serves author old new (asks.Apply edit) (Refused front cause)
+serves_refused author old new edit front cause a = record {
+  is = λ told. inl (sym (ap to_edit (answer-newest old.limits old.log edit ∙ ap (by_refusal old.log edit) a.0) ∙ ap (λ f. Refused f cause) (sym a.1)));
   log = λ told. ap (λ store. store.log) a.2;
   stays = ap setting a.2;
 }

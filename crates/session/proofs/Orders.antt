@@ -37,6 +37,15 @@ each-filter {X} p (x ∷ xs) = by_test (p x) refl (each-filter p xs)
     by_test true e rest = (e, rest)
     by_test false e rest = rest
 
+-- what holds of each holds of those that are kept
+pub each-kept : {X : Type 0} (P : X → Type 0) (p : X → Bool) (xs : List X) → AllByRecursion P xs → AllByRecursion P (filter p xs)
+each-kept P p [] h = tt
+each-kept {X} P p (x ∷ xs) h = by_test (p x) (each-kept P p xs h.1)
+  where
+    by_test : (t : Bool) → AllByRecursion P (filter p xs) → AllByRecursion P (cond t (x ∷ filter p xs) (filter p xs))
+    by_test true rest = (h.0, rest)
+    by_test false rest = rest
+
 -- ---- strict order
 
 pub sorted-map : {X Y : Type 0} (R : Y → Y → Ordering) (g : X → Y) (xs : List X) → IsStrictlySortedBy (λ x y. R (g x) (g y)) xs → IsStrictlySortedBy R (map g xs)

@@ -3,12 +3,11 @@ use Rattle.std.proofs.Common.{◌≡◌, ℕ, suc, zero, inl, inr, Bool, true, f
 use Rattle.std.specs.Prelude.{option_map}
 use Rattle.std.specs.List.{slice_get}
 use Rattle.ground_model.specs.declared.edit.Edit.{Edit}
-use Rattle.ground_model.specs.declared.edit.Edit.TheVariants.{AddPoint, RemovePoint, SetLevel, AddLine, RemoveLine}
 use Rattle.ground_model.specs.declared.entry.Entry.{Entry}
 use Rattle.ground_model.specs.declared.refusal.Refusal.{Refusal}
 use Rattle.ground_model.specs.History.{content_of}
 use Rattle.ground_model.specs.Refusal.{refusal}
-use Rattle.ground_model.specs.Answer.{by_refusal}
+use Rattle.ground_model.specs.Answer.{answer, by_refusal}
 use Rattle.ground_model.proofs.Newest.{answer-newest}
 use Rattle.line_protocol.specs.declared.reply.Reply.{Reply}
 use Rattle.line_protocol.specs.declared.request.Request.{Request}
@@ -18,7 +17,7 @@ use Rattle.line_protocol.specs.Grammar.{spoken}
 use Rattle.line_protocol.specs.Within.{request_within, edit_within, place_within, level_within}
 use Rattle.session.specs.Setting.{Setting}
 use Rattle.session.specs.Told.{Told, told_nothing}
-use Rattle.session.specs.Table.{to_edit, IsApplied, IsReplyWithin}
+use Rattle.session.specs.Table.{to_edit, IsReplyWithin}
 use Rattle.session.specs.Transcript.{may_lack_memory, AnswersLine, QuitIsLast}
 use Rattle.session.specs.Talk.{asks_quit, is_quit, up_to_quit, has_quit}
 use Rattle.session.specs.Talking.{is_bye, ServesLine}
@@ -95,12 +94,8 @@ bye_edit : (h : List Entry) (e : Edit) (cause : Option Refusal) → is_bye (to_e
 bye_edit h e None = refl
 bye_edit h e (Some cause) = refl
 
-bye_applied : (set : Setting) (h : List Entry) (e : Edit) (reply : Reply) → IsApplied set h e reply → is_bye reply ≡ false
-bye_applied set h (AddPoint p z) reply is = rw (is ∙ ap to_edit (answer-newest set.limits h (AddPoint p z))) (bye_edit h (AddPoint p z) (refusal (content_of h) (length h) set.limits (AddPoint p z)))
-bye_applied set h (RemovePoint p) reply is = rw is refl
-bye_applied set h (SetLevel p z) reply is = rw is refl
-bye_applied set h (AddLine kind ps) reply is = rw is refl
-bye_applied set h (RemoveLine id) reply is = rw is refl
+bye_applied : (set : Setting) (h : List Entry) (e : Edit) (reply : Reply) → reply ≡ to_edit (answer set.limits h (length h) e) → is_bye reply ≡ false
+bye_applied set h e reply is = rw (is ∙ ap to_edit (answer-newest set.limits h e)) (bye_edit h e (refusal (content_of h) (length h) set.limits e))
 
 asks_bye : Option Request → Bool
 asks_bye (Some asks.Quit) = true

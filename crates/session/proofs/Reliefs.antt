@@ -1,30 +1,34 @@
--- The relief of a content that has points alone.
-use Rattle.std.proofs.Common.{◌≡◌, ℕ, zero, suc, ◌<◌, ◌^◌, refl, sym, ap, ◌∙◌, arith, List, [], ◌∷◌, Bool, true, false, cond, length, get_or}
-use Rattle.std.specs.Prelude.{ℤ, pos, map, All, IsTrue, ◌&&◌, ◌||◌, Option, unwrap_or, nat_lt, count_by}
-use Rattle.std.specs.List.{filter, flat_map, list_any}
+-- The relief of a content.
+use Rattle.std.proofs.Common.{◌≡◌, ℕ, zero, suc, ◌<◌, ◌^◌, refl, sym, ap, subst, ◌∙◌, arith, List, [], ◌∷◌, Bool, true, false, cond, length, get_or}
+use Rattle.std.specs.Prelude.{ℤ, pos, map, All, IsTrue, ◌&&◌, ◌||◌, Option, unwrap_or}
+use Rattle.std.specs.List.{AllByRecursion, filter, flat_map, list_any}
 use Rattle.std.specs.List.Sorted.{IsStrictlySortedBy}
 use Rattle.std.specs.declared.cmp.Ordering.{Ordering}
 use Rattle.std.specs.declared.cmp.Ordering.TheVariants.{Less, Equal}
 use Rattle.std.specs.Ordering.{ordering_then, on, then_cmp}
-use Rattle.std.specs.FinMap as finmap
 use Rattle.std.proofs.lemmas.Cmp.{tied_itself}
 use Rattle.std.proofs.lemmas.Bool.Decides.{Decides-int_eq}
 use Rattle.std.proofs.lemmas.List.Elements.{All-from_recursion, All-map}
 use Rattle.std.proofs.lemmas.List.Kept.{IsStrictlySortedBy-filter}
+use Rattle.std.proofs.lemmas.List.{length-map}
+use Rattle.std.proofs.lemmas.Simd.{map-map}
 use Rattle.ground_model.specs.declared.facet.Facet.{Facet}
 use Rattle.ground_model.specs.declared.piece.Piece.{Piece}
 use Rattle.ground_model.specs.Place.{Coords, place_cmp, is_before, is_same}
 use Rattle.ground_model.specs.Side.{is_left}
-use Rattle.ground_model.specs.Line.{Segment, pairs}
-use Rattle.ground_model.specs.Content.{Content, points_of, lines_of, level_of, count, pieces}
+use Rattle.ground_model.specs.declared.edit.Edit.TheVariants.{SetLevel}
+use Rattle.ground_model.specs.Content.{Content, after, points_of, lines_of, level_of, count, pieces}
 use Rattle.ground_model.specs.Tri.{Triple, triples, is_empty, is_facet, is_facet_at, facet_with, facets, is_crossed_by_none, is_walled_off}
-use Rattle.ground_model.specs.Kept.{is_in_outer, is_outside_voids, is_kept, kept}
-use Rattle.ground_model.specs.Slope.{slope_of, relief}
+use Rattle.ground_model.specs.Kept.{is_kept, kept}
+use Rattle.ground_model.specs.declared.slope.Slope.{Slope}
+use Rattle.ground_model.specs.Slope.{relief}
 use Rattle.ground_model.proofs.Contents.{places_total}
 use Rattle.ground_model.proofs.Ties.{same_of_is_same}
 use Rattle.measures.specs.SlopeList.{slope_cmp, level_in, IsRelief}
-use Rattle.session.specs.Stores.{slope_by}
-use Rattle.session.proofs.Orders.{each-always, each-implied, each-map, each-flat_map, each-filter, sorted-map, sorted-implied, sorted-flat_map}
+use Rattle.line_table.specs.Table.{pieces_on_all, count_on}
+use Rattle.rings.specs.Kept.{is_kept_among}
+use Rattle.session.specs.Surfaces.{slope_by}
+use Rattle.session.proofs.Orders.{each-always, each-implied, each-map, each-flat_map, each-filter, each-kept, sorted-map, sorted-implied, sorted-flat_map}
 
 -- ---- the order of triples
 
@@ -148,18 +152,44 @@ one_level level_at fs =
     at : (k : ℕ) (d : Facet) → k < length fs → (p : Coords) → has_corner p (get_or fs k d) ≡ true → zero_or level_at p ≡ level_in (map (slope_by level_at) fs) p
     at k d lt p h = level_in-is level_at fs p (any_at (has_corner p) fs k d lt h)
 
--- Facets of points in order, with any levels, are a relief.
-pub facets-relief : (level_at : Coords → Option ℤ) (points : List Coords) (ps : List Piece) → IsStrictlySortedBy place_cmp points → length (map (slope_by level_at) (facets points ps)) < 2 ^ 32 → IsRelief (map (slope_by level_at) (facets points ps))
-unfolding facets triple_cmp
-facets-relief level_at points ps sorted few = record {
-  in_order = sorted-map slope_cmp (slope_by level_at) (facets points ps) (sorted-map (λ f g. slope_cmp (slope_by level_at f) (slope_by level_at g)) (facet_with ps) (filter (is_facet_at points ps) (triples points)) (IsStrictlySortedBy-filter triple_cmp (is_facet_at points ps) (triples points) (triples-sorted points sorted)));
-  turned = All-from_recursion (λ s. IsTrue (is_left s.facet.a s.facet.b s.facet.c)) (map (slope_by level_at) (facets points ps))
-      (each-map (λ s. IsTrue (is_left s.facet.a s.facet.b s.facet.c)) (slope_by level_at) (facets points ps)
-      (each-map (λ f. IsTrue (is_left f.a f.b f.c)) (facet_with ps) (filter (is_facet_at points ps) (triples points))
-      (each-implied (λ t. is_facet_at points ps t ≡ true) (λ t. is_left t.0 t.1.0 t.1.1 ≡ true) (λ t h. left_of points ps t.0 t.1.0 t.1.1 h) (filter (is_facet_at points ps) (triples points)) (each-filter (is_facet_at points ps) (triples points)))));
-  one_level = one_level level_at (facets points ps);
-  few = few;
+-- by a, then b, then c
+pub facet_cmp : Facet → Facet → Ordering
+facet_cmp = then_cmp (on (λ f. f.a) place_cmp) (then_cmp (on (λ f. f.b) place_cmp) (on (λ f. f.c) place_cmp))
+
+-- Counterclockwise facets in order, with any levels, are a relief.
+pub slopes-relief : (level_at : Coords → Option ℤ) (fs : List Facet) → IsStrictlySortedBy facet_cmp fs → All (λ f. IsTrue (is_left f.a f.b f.c)) fs → length fs < 2 ^ 32 → IsRelief (map (slope_by level_at) fs)
+unfolding facet_cmp
+slopes-relief level_at fs sorted turned few = record {
+  in_order = sorted-map slope_cmp (slope_by level_at) fs sorted;
+  turned = All-map (λ s. IsTrue (is_left s.facet.a s.facet.b s.facet.c)) (slope_by level_at) fs turned;
+  one_level = one_level level_at fs;
+  few = rw (length-map fs (slope_by level_at)) few;
 }
+
+module _ (points : List Coords) (ps : List Piece) where
+  facets-sorted : IsStrictlySortedBy place_cmp points → IsStrictlySortedBy facet_cmp (facets points ps)
+  unfolding facets triple_cmp facet_cmp
+  facets-sorted sorted = sorted-map facet_cmp (facet_with ps) (filter (is_facet_at points ps) (triples points)) (IsStrictlySortedBy-filter triple_cmp (is_facet_at points ps) (triples points) (triples-sorted points sorted))
+
+  facets-left : AllByRecursion (λ f. IsTrue (is_left f.a f.b f.c)) (facets points ps)
+  unfolding facets
+  facets-left =
+      each-map (λ f. IsTrue (is_left f.a f.b f.c)) (facet_with ps) (filter (is_facet_at points ps) (triples points))
+      (each-implied (λ t. is_facet_at points ps t ≡ true) (λ t. is_left t.0 t.1.0 t.1.1 ≡ true) (λ t h. left_of points ps t.0 t.1.0 t.1.1 h) (filter (is_facet_at points ps) (triples points)) (each-filter (is_facet_at points ps) (triples points)))
+
+  -- The facets that a test keeps, of points in order, with any levels.
+  pub kept-relief : (level_at : Coords → Option ℤ) (keep : Facet → Bool) → IsStrictlySortedBy place_cmp points → length (map (slope_by level_at) (filter keep (facets points ps))) < 2 ^ 32 → IsRelief (map (slope_by level_at) (filter keep (facets points ps)))
+  kept-relief level_at keep sorted few =
+      slopes-relief level_at (filter keep (facets points ps)) (IsStrictlySortedBy-filter facet_cmp keep (facets points ps) (facets-sorted sorted))
+      (All-from_recursion (λ f. IsTrue (is_left f.a f.b f.c)) (filter keep (facets points ps)) (each-kept (λ f. IsTrue (is_left f.a f.b f.c)) keep (facets points ps) facets-left))
+      (rw (← length-map (filter keep (facets points ps)) (slope_by level_at)) few)
+
+-- The facets of a relief with other levels.
+pub releveled-relief : (level_at : Coords → Option ℤ) (slopes : List Slope) → IsRelief slopes → IsRelief (map (λ s. slope_by level_at s.facet) slopes)
+unfolding facet_cmp
+releveled-relief level_at slopes r =
+    subst IsRelief (map-map (slope_by level_at) (λ s. s.facet) slopes)
+    (slopes-relief level_at (map (λ s. s.facet) slopes) (sorted-map facet_cmp (λ s. s.facet) slopes r.in_order) (All-map (λ f. IsTrue (is_left f.a f.b f.c)) (λ s. s.facet) slopes r.turned) (rw (length-map slopes (λ s. s.facet)) r.few))
 
 pub relief-none : IsRelief []
 unfolding IsStrictlySortedBy
@@ -170,42 +200,20 @@ relief-none = record {
   few = omega arith;
 }
 
-pub facets-none : [] ≡ facets [] []
-unfolding facets
-facets-none = refl
+-- ---- the relief of a content
 
--- ---- without lines
+-- it is told by its points, its pieces, its lines and its levels
+pub relief-by : (c : Content) → relief c ≡ map (slope_by (level_of c)) (filter (is_kept_among (lines_of c)) (facets (points_of c) (pieces_on_all (points_of c) (lines_of c))))
+unfolding relief kept is_kept pieces count pieces_on_all count_on
+relief-by c = refl
 
-no_length : {A : Type 0} (xs : List A) → length xs ≡ 0 → xs ≡ []
-no_length [] e = refl
-no_length (x ∷ xs) e = absurd (omega arith)
-
-no_lines_of : (c : Content) → finmap.len c.lines ≡ 0 → lines_of c ≡ []
-no_lines_of c none = ap (λ es. map (λ e. e.1) es) (no_length (finmap.entries c.lines) (sym (finmap.len-entries c.lines) ∙ none))
-
-no_count : (c : Content) → lines_of c ≡ [] → (p q : Coords) → count c p q ≡ 0
-unfolding count
-no_count c none p q = ap (count_by _) none
-
-none_counted : (count_at : Coords → Coords → ℕ) → ((p q : Coords) → count_at p q ≡ 0) → (xs : List Segment) → filter (λ (x : Piece). nat_lt 0 x.count) (map (λ pair. record { p = pair.0; q = pair.1; count = count_at pair.0 pair.1 }) xs) ≡ []
-none_counted count_at none [] = refl
-none_counted count_at none (x ∷ xs) = rw (none x.0 x.1) (none_counted count_at none xs)
-
-no_pieces : (c : Content) → lines_of c ≡ [] → pieces c ≡ []
-unfolding pieces
-no_pieces c none = none_counted (count c) (no_count c none) (pairs (points_of c))
-
-all_kept : {X : Type 0} (p : X → Bool) → ((x : X) → p x ≡ true) → (xs : List X) → filter p xs ≡ xs
-all_kept p h [] = refl
-all_kept p h (x ∷ xs) = rw (h x) (ap (λ k. x ∷ k) (all_kept p h xs))
-
-each_kept : (c : Content) → lines_of c ≡ [] → (f : Facet) → is_kept c f ≡ true
-unfolding is_kept is_in_outer is_outside_voids
-each_kept c none f = rw none refl
-
--- Without lines each facet is kept, and there are no pieces.
-pub relief-points : (c : Content) → finmap.len c.lines ≡ 0 → relief c ≡ map (slope_by (level_of c)) (facets (points_of c) [])
-unfolding relief kept
-relief-points c none =
-    let lines = no_lines_of c none in
-    ap (map (slope_of c)) (all_kept (is_kept c) (each_kept c lines) (facets (points_of c) (pieces c)) ∙ ap (facets (points_of c)) (no_pieces c lines))
+-- a level that is set leaves the facets
+pub relief-level : (c : Content) (p : Coords) (z : ℤ) → points_of (after c (SetLevel p z)) ≡ points_of c → relief (after c (SetLevel p z)) ≡ map (λ s. slope_by (level_of (after c (SetLevel p z))) s.facet) (relief c)
+unfolding after
+relief-level c p z same =
+    let level = level_of (after c (SetLevel p z)) in
+    let fs = filter (is_kept_among (lines_of c)) (facets (points_of c) (pieces_on_all (points_of c) (lines_of c))) in
+    relief-by (after c (SetLevel p z))
+    ∙ ap (λ points. map (slope_by (level_of (after c (SetLevel p z)))) (filter (is_kept_among (lines_of c)) (facets points (pieces_on_all points (lines_of c))))) same
+    ∙ sym (map-map (λ s. slope_by (level_of (after c (SetLevel p z))) s.facet) (slope_by (level_of c)) fs)
+    ∙ ap (map (λ s. slope_by (level_of (after c (SetLevel p z))) s.facet)) (sym (relief-by c))

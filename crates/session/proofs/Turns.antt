@@ -6,13 +6,12 @@ use Rattle.std.proofs.lemmas.Option.{slice_get_within}
 use Rattle.std.specs.Prelude.{IsSomeAnd, option_and_then}
 use Rattle.std.specs.List.{slice_get}
 use Rattle.ground_model.specs.declared.edit.Edit.{Edit}
-use Rattle.ground_model.specs.declared.edit.Edit.TheVariants.{AddPoint, RemovePoint, SetLevel, AddLine, RemoveLine}
 use Rattle.ground_model.specs.declared.entry.Entry.{Entry}
 use Rattle.ground_model.specs.declared.limits.Limits.{Limits}
 use Rattle.ground_model.specs.declared.refusal.Refusal.{Refusal}
 use Rattle.ground_model.specs.History.{IsLegal, IsNext, content_of}
 use Rattle.ground_model.specs.Refusal.{refusal}
-use Rattle.ground_model.specs.Answer.{by_refusal, next_entry}
+use Rattle.ground_model.specs.Answer.{answer, by_refusal, next_entry}
 use Rattle.ground_model.proofs.Newest.{answer-newest}
 use Rattle.line_protocol.specs.declared.reply.Reply.{Reply}
 use Rattle.line_protocol.specs.declared.request.Request.{Request}
@@ -22,7 +21,7 @@ use Rattle.line_protocol.specs.Grammar.{spoken}
 use Rattle.line_protocol.specs.Within.{request_within, request_of}
 use Rattle.session.specs.Setting.{Setting}
 use Rattle.session.specs.Told.{Told, told_nothing, told_after, shown_after, front_of, done_front, front_list, fronts_told, edit_made}
-use Rattle.session.specs.Table.{to_edit, IsApplied, IsReplyWithin}
+use Rattle.session.specs.Table.{to_edit, IsReplyWithin}
 use Rattle.session.specs.Transcript.{Reading, Shown, Turned, Free, reading, IsFrontBy, IsFrontFor, AnswersLine, IsEntry, Turn, Turns, fronts_by}
 use Rattle.session.specs.Talking.{ServesLine, told_by, Going}
 
@@ -139,14 +138,9 @@ TellsOf set h edit reply = Tells set.limits h edit (done_front reply) (front_of 
 tells_by : (set : Setting) (h : List Entry) (edit : Option Edit) (reply other : Reply) → reply ≡ other → TellsOf set h edit other → TellsOf set h edit reply
 tells_by set h edit reply other is t = rw is t
 
-tells_applied : (set : Setting) (h : List Entry) (e : Edit) (reply : Reply) → IsApplied set h e reply → TellsOf set h (Some e) reply
+tells_applied : (set : Setting) (h : List Entry) (e : Edit) (reply : Reply) → reply ≡ to_edit (answer set.limits h (length h) e) → TellsOf set h (Some e) reply
 unfolding Tells TellsOf
-tells_applied set h (AddPoint p z) reply is =
-    tells_by set h (Some (AddPoint p z)) reply _ (is ∙ ap to_edit (answer-newest set.limits h (AddPoint p z))) (tells_edit set.limits h (AddPoint p z) _ refl)
-tells_applied set h (RemovePoint p) reply is = rw is tt
-tells_applied set h (SetLevel p z) reply is = rw is tt
-tells_applied set h (AddLine kind ps) reply is = rw is tt
-tells_applied set h (RemoveLine id) reply is = rw is tt
+tells_applied set h e reply is = tells_by set h (Some e) reply _ (is ∙ ap to_edit (answer-newest set.limits h e)) (tells_edit set.limits h e _ refl)
 
 tells_request : (set : Setting) (h : List Entry) (told : Told) (r : Option Request) (reply : Reply) → IsReplyWithin set h told r reply → TellsOf set h (edit_made told r) reply
 unfolding Tells TellsOf

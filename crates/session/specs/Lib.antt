@@ -1,5 +1,6 @@
 pub mod Lines
 pub mod Setting
+pub mod Surfaces
 pub mod Stores
 pub mod Told
 pub mod Table

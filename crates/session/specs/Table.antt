@@ -1,8 +1,6 @@
 -- The reply to each request, at the history that the reply speaks of.
 use Rattle.std.specs.Prelude.{◌≡◌, List, length, Option, Some, None}
 use Rattle.std.specs.FinMap as finmap
-use Rattle.ground_model.specs.declared.edit.Edit.{Edit}
-use Rattle.ground_model.specs.declared.edit.Edit.TheVariants.{AddPoint}
 use Rattle.ground_model.specs.declared.entry.Entry.{Entry}
 use Rattle.ground_model.specs.History.{content_of}
 use Rattle.ground_model.specs.Level.{level_at}
@@ -22,14 +20,9 @@ to_edit (answers.Conflict front m) = Conflict front m
 to_edit (answers.Refused front cause) = Refused front cause
 to_edit (answers.Done front line) = Done front line
 
--- The reply to an edit that is to be made at once. Only points are added so far.
-abbrev pub IsApplied : Setting → List Entry → Edit → Reply → Type 0
-IsApplied set h (AddPoint p z) reply = reply ≡ to_edit (answer set.limits h (length h) (AddPoint p z))
-IsApplied set h edit reply = reply ≡ Unbuilt
-
 -- One row for each request. The history has the entries that the reply speaks of, and no more.
 abbrev pub IsReply : Setting → List Entry → Told → Request → Reply → Type 0
-IsReply set h told (asks.Apply edit) reply = IsApplied set h edit reply
+IsReply set h told (asks.Apply edit) reply = reply ≡ to_edit (answer set.limits h (length h) edit)
 IsReply set h told asks.Stat reply = reply ≡ Stat (length h) (finmap.len (content_of h).points) (finmap.len (content_of h).lines)
 IsReply set h told (asks.Level p) reply = reply ≡ Level (length h) (level_at (relief (content_of h)) p)
 IsReply set h told asks.Quit reply = reply ≡ Bye

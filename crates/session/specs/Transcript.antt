@@ -2,7 +2,7 @@
 use Rattle.std.specs.Prelude.{◌≡◌, ◌==◌, ℕ, suc, ◌+◌, ◌≤◌, ◌⊎◌, Bool, true, false, List, [], ◌∷◌, take, drop, slice_get, length, Option, Some, None, IfSome, IsSomeAnd, if◌then◌else◌, ⊤}
 use Rattle.std.specs.List.{flat_map}
 use Rattle.ground_model.specs.declared.edit.Edit.{Edit}
-use Rattle.ground_model.specs.declared.edit.Edit.TheVariants.{AddPoint, AddLine}
+use Rattle.ground_model.specs.declared.edit.Edit.TheVariants.{AddLine}
 use Rattle.ground_model.specs.declared.entry.Entry.{Entry}
 use Rattle.ground_model.specs.History.{IsLegal}
 use Rattle.line_protocol.specs.declared.reply.Reply.{Reply}
@@ -47,15 +47,10 @@ abbrev pub holds_places : Edit → Bool
 holds_places (AddLine kind places) = true
 holds_places edit = false
 
--- the edits that take memory when they are made at once, of those that are built
-abbrev pub takes_memory_to_make : Edit → Bool
-takes_memory_to_make (AddPoint p z) = true
-takes_memory_to_make edit = holds_places edit
-
 -- the requests that take memory
 abbrev pub takes_memory : Request → Bool
 takes_memory (asks.Plan edit) = holds_places edit
-takes_memory (asks.Apply edit) = takes_memory_to_make edit
+takes_memory (asks.Apply edit) = true
 takes_memory request = false
 
 -- Memory may be wanting for a request within its limits that takes some, and outside them where it was taken while the line was read.

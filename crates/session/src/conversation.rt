@@ -2,7 +2,6 @@
 
 ghost use Rattle.std.specs.Prelude.{◌≡◌, ◌+◌, ◌≤◌, ◌<◌, ◌^◌, Some, IfOk, IfNone, length, take};
 ghost use Rattle.ground_io.specs.Causes.{HasCause, Rose};
-ghost use Rattle.ground_model.specs.declared.edit.Edit.TheVariants.{AddPoint};
 ghost use Rattle.line_protocol.specs.declared.request.Request.TheVariants.{Apply};
 ghost use Rattle.line_protocol.specs.Replies.{HasVolumeWithin};
 ghost use Rattle.session.specs.Stores.{setting};
@@ -13,7 +12,7 @@ ghost use Rattle.session.specs.declared.conversation.Ended.TheVariants.{ReadFaul
 use crate::line::{LINE_LIMIT, LineBuffer};
 use crate::store::{Applied, Store};
 use ground_io::{Failed, Link, Sink, Source};
-use ground_model::{Edit, Level, Place};
+use ground_model::Edit;
 use line_protocol::{LineFault, Reply, Request, put_reply, read_request};
 use std::alloc::Global;
 
@@ -38,35 +37,25 @@ pub enum Ended {
     Memory,
 }
 
-fn reply_to_addition(store: &mut Store, place: Place, level: Level) -> Reply
-    ensures serves { Serves 1 store.old store.new (Apply (AddPoint place level)) result }
+fn reply_to_edit(store: &mut Store, edit: Edit) -> Reply
+    ensures serves { Serves 1 store.old store.new (Apply edit) result }
     ensures volume { HasVolumeWithin result }
 {
-    match store.add_point(place, level) {
-        Applied::Done(front) => Reply::Done(front, None),
+    match store.apply(edit) {
+        Applied::Done(front, line) => Reply::Done(front, line),
         Applied::Refused(front, cause) => Reply::Refused(front, cause),
         Applied::Memory => Reply::Memory,
     }
 }
 
-fn reply_to_edit(store: &mut Store, edit: &Edit) -> Reply
-    ensures serves { Serves 1 store.old store.new (Apply edit.now) result }
-    ensures volume { HasVolumeWithin result }
-{
-    match edit {
-        Edit::AddPoint(place, level) => reply_to_addition(store, *place, *level),
-        _ => Reply::Unbuilt,
-    }
-}
-
-fn reply_to_request(store: &mut Store, request: &Request) -> Reply
-    ensures serves { Serves 1 store.old store.new request.now result }
+fn reply_to_request(store: &mut Store, request: Request) -> Reply
+    ensures serves { Serves 1 store.old store.new request result }
     ensures volume { HasVolumeWithin result }
 {
     match request {
         Request::Apply(edit) => reply_to_edit(store, edit),
         Request::Stat => Reply::Stat(store.front(), store.points(), store.lines()),
-        Request::Level(place) => Reply::Level(store.front(), store.level(*place)),
+        Request::Level(place) => Reply::Level(store.front(), store.level(place)),
         Request::Quit => Reply::Bye,
         _ => Reply::Unbuilt,
     }
@@ -79,7 +68,7 @@ fn reply_to_line(alloc: Global, store: &mut Store, line: &[u8]) -> Reply
     ensures volume { HasVolumeWithin result }
 {
     match read_request(alloc, line, store.origin()) {
-        Ok(request) => reply_to_request(store, &request),
+        Ok(request) => reply_to_request(store, request),
         Err(LineFault::Syntax(place)) => Reply::Syntax(place),
         Err(LineFault::Range) => Reply::Range,
         Err(LineFault::Memory) => Reply::Memory,

@@ -4,8 +4,10 @@
 
 mod conversation;
 mod line;
+mod refusals;
 mod slopes;
 mod store;
+mod surface;
 
 pub use conversation::{Ended, talk};
 pub use store::Store;

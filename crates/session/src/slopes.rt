@@ -1,13 +1,19 @@
-//! The slopes of a surface without lines, one point more.
+//! The relief of points and lines.
 
-ghost use Rattle.std.specs.Prelude.{◌≡◌, pos, [], map, filter, IfOk, unwrap_or};
+ghost use Rattle.std.specs.Prelude.{◌≡◌, ◌<◌, ◌^◌, pos, [], length, map, filter, IfOk, unwrap_or};
 ghost use Rattle.std.specs.BTreeMap.{get, keys};
 ghost use Rattle.std.specs.List.Sorted.{IsStrictlySortedBy};
-ghost use Rattle.ground_model.specs.Place.{place_cmp, is_before};
-ghost use Rattle.session.specs.Stores.{points_with, level_with as level_with_of, slope_by, slopes_with as slopes_with_of};
+ghost use Rattle.ground_model.specs.Place.{place_cmp};
+ghost use Rattle.ground_model.specs.Slope.{relief};
+ghost use Rattle.measures.specs.SlopeList.{IsRelief};
+ghost use Rattle.line_table.specs.Table.{live};
+ghost use Rattle.rings.specs.Kept.{is_kept_among};
+ghost use Rattle.session.specs.Surfaces.{content_by, slope_by};
 
 use ground_model::{Facet, Level, Listed, Place, Slope};
+use line_table::Lines;
 use measures::SlopeList;
+use rings::kept;
 use slow_tri::facets;
 use std::alloc::{AllocError, Global};
 use std::collections::BTreeMap;
@@ -32,107 +38,94 @@ fn level_or_zero(level: Option<Level>) -> Level
     }
 }
 
-fn level_with(
-    points: &BTreeMap<Place, Level>,
-    place: Place,
-    level: Level,
-    at: Place,
-) -> Option<Level>
-    ensures { result ≡ level_with_of (get place_cmp points.now) place level at }
+fn level_at(points: &BTreeMap<Place, Level>, at: Place) -> Level
+    ensures { result ≡ unwrap_or (get place_cmp points.now at) (pos 0) }
 {
-    if at.cmp(&place).is_eq() {
-        Some(level)
-    } else {
-        points.get(&at).copied()
-    }
+    level_or_zero(points.get(&at).copied())
 }
 
-fn slope_with(points: &BTreeMap<Place, Level>, place: Place, level: Level, facet: Facet) -> Slope
-    ensures { result ≡ slope_by (level_with_of (get place_cmp points.now) place level) facet }
+fn slope_of(points: &BTreeMap<Place, Level>, facet: Facet) -> Slope
+    ensures { result ≡ slope_by (get place_cmp points.now) facet }
 {
     Slope {
         facet,
-        za: level_or_zero(level_with(points, place, level, facet.a)),
-        zb: level_or_zero(level_with(points, place, level, facet.b)),
-        zc: level_or_zero(level_with(points, place, level, facet.c)),
+        za: level_at(points, facet.a),
+        zb: level_at(points, facet.b),
+        zc: level_at(points, facet.c),
     }
 }
 
-fn places_below(
+/// The places of the points, in order.
+pub(crate) fn places_of(
     alloc: Global,
     points: &BTreeMap<Place, Level>,
-    place: Place,
 ) -> Result<Vec<Place>, AllocError>
-    ensures value { IfOk result (λ below. below.items ≡ filter (λ q. is_before q place) (keys points.now)) }
+    ensures value { IfOk result (λ places. places.items ≡ keys points.now) }
     ensures ordered { IsStrictlySortedBy place_cmp (keys points.now) }
 {
-    points
-        .keys()
-        .copied()
-        .filter(|point| *point < place)
+    points.keys().copied().collect(alloc)
+}
+
+fn kept_slopes(
+    alloc: Global,
+    points: &BTreeMap<Place, Level>,
+    lines: &Lines,
+    facets: &[Facet],
+) -> Result<Vec<Slope>, AllocError>
+    ensures { IfOk result (λ slopes. slopes.items ≡ map (slope_by (get place_cmp points.now)) (filter (is_kept_among (live lines.now)) facets.now)) }
+{
+    facets
+        .iter()
+        .filter(|facet| kept(lines, facet))
+        .map(|facet| slope_of(points, *facet))
         .collect(alloc)
 }
 
-fn places_above(
-    alloc: Global,
-    points: &BTreeMap<Place, Level>,
-    place: Place,
-) -> Result<Vec<Place>, AllocError>
-    ensures { IfOk result (λ above. above.items ≡ filter (is_before place) (keys points.now)) }
+/// A relief of 2^32 slopes or more is refused as want of memory.
+fn as_relief(slopes: Vec<Slope>) -> Result<SlopeList, AllocError>
+    requires { length slopes.items < 2 ^ 32 → IsRelief slopes.items }
+    ensures { IfOk result (λ list. list ≡ slopes.items) }
 {
-    points
-        .keys()
-        .copied()
-        .filter(|point| place < *point)
-        .collect(alloc)
+    if slopes.len() > u32::MAX as usize {
+        return Err(AllocError);
+    }
+    Ok(SlopeList::new(Listed::from_vec(slopes)))
 }
 
-// The places in order, with this one, which isn't among them.
-fn places_with(
+/// The relief of these points and lines. Its cost is that of the slow triangulation.
+pub(crate) fn relief_of(
     alloc: Global,
     points: &BTreeMap<Place, Level>,
-    place: Place,
-) -> Result<Vec<Place>, AllocError>
-    ensures value { IfOk result (λ places. places.items ≡ points_with (keys points.now) place) }
-    ensures ordered { IsStrictlySortedBy place_cmp (keys points.now) }
+    lines: &Lines,
+) -> Result<SlopeList, AllocError>
+    ensures { IfOk result (λ slopes. slopes ≡ relief (content_by points.now.entries lines.now)) }
 {
-    let mut places = places_below(alloc, points, place)?;
-    let above = places_above(alloc, points, place)?;
-    places.push(place)?;
-    places.extend_from_slice(above.as_slice())?;
-    Ok(places)
+    let places = places_of(alloc, points)?;
+    let pieces = lines.pieces(places.as_slice())?;
+    let found = facets(alloc, places.as_slice(), pieces.as_slice())?;
+    as_relief(kept_slopes(alloc, points, lines, found.as_slice())?)
+}
+
+/// The same facets with the levels of these points, for points that stand at the same places.
+pub(crate) fn releveled(
+    alloc: Global,
+    points: &BTreeMap<Place, Level>,
+    slopes: &SlopeList,
+) -> Result<SlopeList, AllocError>
+    ensures { IfOk result (λ list. list ≡ map (λ s. slope_by (get place_cmp points.now) s.facet) slopes.now) }
+{
+    as_relief(slopes_on(alloc, points, slopes.as_slice())?)
 }
 
 fn slopes_on(
     alloc: Global,
     points: &BTreeMap<Place, Level>,
-    place: Place,
-    level: Level,
-    facets: &[Facet],
+    slopes: &[Slope],
 ) -> Result<Vec<Slope>, AllocError>
-    ensures { IfOk result (λ slopes. slopes.items ≡ map (slope_by (level_with_of (get place_cmp points.now) place level)) facets.now) }
+    ensures { IfOk result (λ list. list.items ≡ map (λ s. slope_by (get place_cmp points.now) s.facet) slopes.now) }
 {
-    facets
+    slopes
         .iter()
-        .map(|facet| slope_with(points, place, level, *facet))
+        .map(|slope| slope_of(points, slope.facet))
         .collect(alloc)
-}
-
-/// The relief of these points with one more. Its cost is that of the slow triangulation. A relief
-/// of 2^32 slopes or more is refused as want of memory.
-pub(crate) fn slopes_with(
-    alloc: Global,
-    points: &BTreeMap<Place, Level>,
-    place: Place,
-    level: Level,
-) -> Result<SlopeList, AllocError>
-    ensures { IfOk result (λ slopes. slopes ≡ slopes_with_of (keys points.now) (get place_cmp points.now) place level) }
-{
-    let places = places_with(alloc, points, place)?;
-    let found = facets(alloc, places.as_slice(), &[])?;
-    let slopes = slopes_on(alloc, points, place, level, found.as_slice())?;
-    if slopes.len() > u32::MAX as usize {
-        return Err(AllocError);
-    }
-    Ok(SlopeList::new(Listed::from_vec(slopes)))
 }

@@ -1,23 +1,24 @@
-//! A store: a head, limits, and the journal with the points that it makes.
+//! A store: a head, limits, and the journal with the surface that it makes.
 
-ghost use Rattle.std.specs.Prelude.{◌≡◌, ◌+◌, ◌<◌, ◌^◌, [], ◌∷◌, length, nat_le, IfOk, IfNone, option_copied};
+ghost use Rattle.std.specs.Prelude.{◌≡◌, ◌<◌, ◌^◌, [], length, None, IfOk, IfNone};
+ghost use Rattle.ground_model.specs.declared.edit.Edit.{Edit};
 ghost use Rattle.std.specs.FinMap as map;
 ghost use Rattle.ground_num.specs.Head.{IsOrigin};
-ghost use Rattle.ground_model.specs.declared.refusal.Refusal.TheVariants.{Occupied, PointsFull, LogFull};
-ghost use Rattle.ground_model.specs.declared.edit.Edit.TheVariants.{AddPoint};
-ghost use Rattle.ground_model.specs.Content.{level_of, after};
+ghost use Rattle.ground_model.specs.declared.edit.Edit.TheVariants.{AddPoint, RemovePoint, SetLevel, AddLine, RemoveLine};
+ghost use Rattle.ground_model.specs.Content.{after};
 ghost use Rattle.ground_model.specs.Level.{level_at};
 ghost use Rattle.ground_model.specs.Slope.{relief};
+ghost use Rattle.ground_model.specs.Answer.{given_number};
 ghost use Rattle.ground_model.specs.History.{content_of, IsLegal};
-ghost use Rattle.ground_model.specs.Refusal.{first_of, when, because};
+ghost use Rattle.ground_model.specs.Refusal.{edit_refusal};
 ghost use Rattle.session.specs.Stores.{newest_refusal, Applies};
 
-use crate::slopes::{no_slopes, slopes_with};
-use ground_model::{Edit, Entry, Level, Limits, Place, Refusal};
+use crate::refusals::first_cause;
+use crate::surface::Surface;
+use ground_model::{Edit, Entry, Level, Limits, LineId, LineKind, Place, Places, Refusal};
 use ground_num::{Head, Origin};
-use measures::{SlopeList, level as level_on};
+use line_table::Line;
 use std::alloc::{AllocError, Global};
-use std::collections::BTreeMap;
 use std::marker::Model;
 
 /// One surface: its head and limits, which stay, and its journal.
@@ -26,26 +27,23 @@ pub struct Store {
     head: Head,
     limits: Limits,
     entries: Vec<Entry>,
-    points: BTreeMap<Place, Level>,
-    slopes: SlopeList,
+    surface: Surface,
 }
 
 impl Model for Store {
-    ghost use Rattle.std.specs.BTreeMap.{get};
-    ghost use Rattle.ground_model.specs.Place.{place_cmp};
     ghost use Rattle.session.specs.Stores.{StoreView, IsSound};
 
     ghost Value = { StoreView };
 
     ghost view = { λ s. record { head = s.head; limits = s.limits; log = s.entries.items } };
 
-    ghost invariant = { λ s. IsSound s.head s.limits s.entries.items (get place_cmp s.points) s.points.entries s.slopes };
+    ghost invariant = { λ s. IsSound s.head s.limits s.entries.items s.surface };
 }
 
 /// What became of an edit.
 #[derive(Clone, Copy, Debug, PartialEq, Eq)]
 pub(crate) enum Applied {
-    Done(u32),
+    Done(u32, Option<LineId>),
     Refused(u32, Refusal),
     Memory,
 }
@@ -53,25 +51,16 @@ pub(crate) enum Applied {
 /// The author of the edits of a session that has the store to itself.
 pub(crate) const AUTHOR: u16 = 1;
 
-// Why a point is not added, where its place has this level and there are so many points and entries.
-fn point_refusal(
-    limits: &Limits,
-    level: Option<Level>,
-    points: usize,
-    entries: usize,
-) -> Option<Refusal>
-    ensures value { result ≡ first_of (first_of (because Occupied level ∷ when (nat_le limits.now.points points) PointsFull ∷ []) ∷ when (nat_le limits.now.log entries) LogFull ∷ []) }
-    ensures room { IfNone result (entries < 2 ^ 24) }
+// The line on a copy of its places, which the journal keeps too. 2^32 places or more, as no request
+// can spell, are refused as want of memory.
+fn copy_of(alloc: Global, kind: LineKind, places: &Places) -> Result<Line, AllocError>
+    ensures line { IfOk result (λ line. line ≡ record { kind = kind; places = places.now }) }
+    ensures short { IfOk result (λ line. length line.places < 2 ^ 32) }
 {
-    if let Some(level) = level {
-        Some(Refusal::Occupied(level))
-    } else if points >= limits.points as usize {
-        Some(Refusal::PointsFull)
-    } else if entries >= limits.log as usize {
-        Some(Refusal::LogFull)
-    } else {
-        None
+    if places.len() > u32::MAX as usize {
+        return Err(AllocError);
     }
+    Ok(Line::new(kind, Places::from_slice(alloc, places.as_slice())?))
 }
 
 impl Store {
@@ -84,8 +73,7 @@ impl Store {
             head,
             limits,
             entries: Vec::new(alloc),
-            points: BTreeMap::new(alloc),
-            slopes: no_slopes(alloc),
+            surface: Surface::empty(alloc),
         })
     }
 
@@ -107,74 +95,138 @@ impl Store {
     pub(crate) fn points(&self) -> u32
         ensures { result ≡ map.len (content_of self.now.log).points }
     {
-        self.points.len() as u32
+        let _front = self.entries.len();
+        self.surface.points() as u32
     }
 
-    /// How many lines are live: none, as long as none can be added.
+    /// How many lines are live.
     pub(crate) fn lines(&self) -> u32
         ensures { result ≡ map.len (content_of self.now.log).lines }
     {
-        let _entries = self.entries.len();
-        0
+        self.surface.lines().len()
     }
 
     /// The level of the surface at the place, None outside it. It takes no memory.
     pub(crate) fn level(&self, place: Place) -> Option<Level>
         ensures { result ≡ level_at (relief (content_of self.now.log)) place }
     {
-        level_on(&self.slopes, place)
+        self.surface.level(place)
     }
 
-    // The slopes of the surface with one point more, which may be added.
-    fn slopes_with(&self, place: Place, level: Level) -> Result<SlopeList, AllocError>
-        requires { newest_refusal self.now (AddPoint place level) ≡ None }
-        ensures { IfOk result (λ slopes. slopes ≡ relief (after (content_of self.now.log) (AddPoint place level))) }
-    {
-        slopes_with(*self.entries.allocator(), &self.points, place, level)
-    }
-
-    fn refusal_at(&self, place: Place, level: Level) -> Option<Refusal>
-        ensures value { result ≡ newest_refusal self.now (AddPoint place level) }
+    // The edit's own cause, or that the journal is full.
+    fn cause(&self, own: Option<Refusal>) -> Option<Refusal>
+        ensures value { (edit : Edit) → own ≡ edit_refusal (content_of self.now.log) self.now.limits edit → result ≡ newest_refusal self.now edit }
+        ensures own { IfNone result (own ≡ None) }
         ensures room { IfNone result (length self.now.log < 2 ^ 24) }
     {
-        let found = self.points.get(&place).copied();
-        point_refusal(&self.limits, found, self.points.len(), self.entries.len())
+        first_cause(own, &self.limits, self.entries.len())
     }
 
-    /// Adds a point as the author's next entry, if that is lawful. Want of memory changes nothing.
-    pub(crate) fn add_point(&mut self, place: Place, level: Level) -> Applied
-        ensures { Applies 1 (AddPoint place level) self.old self.new result }
-    {
-        if let Some(cause) = self.refusal_at(place, level) {
-            return Applied::Refused(self.front(), cause);
-        }
-        self.make_point(place, level)
-    }
-
-    // The new slopes and both growths come before any change.
-    fn make_point(&mut self, place: Place, level: Level) -> Applied
-        requires lawful { newest_refusal self.old (AddPoint place level) ≡ None }
+    // Enters a lawful edit, whose surface this is, with the number that it gives to a line.
+    fn enter(&mut self, edit: Edit, surface: Surface, line: Option<LineId>) -> Applied
+        requires lawful { newest_refusal self.old edit ≡ None }
         requires room { length self.old.log < 2 ^ 24 }
-        ensures { Applies 1 (AddPoint place level) self.old self.new result }
+        requires made { surface ≡ after (content_of self.old.log) edit }
+        requires number { line ≡ given_number (content_of self.old.log) edit }
+        ensures { Applies 1 edit self.old self.new result }
     {
-        let Ok(slopes) = self.slopes_with(place, level) else {
-            return Applied::Memory;
-        };
         if self.entries.reserve(1).is_err() {
             return Applied::Memory;
         }
-        match self.points.insert(place, level) {
-            Ok(_) => {
-                let number = self.entries.len() as u32 + 1;
-                self.entries.push_reserved(Entry {
-                    author: AUTHOR,
-                    number,
-                    edit: Edit::AddPoint(place, level),
-                });
-                self.slopes = slopes;
-                Applied::Done(number)
-            }
-            Err(_) => Applied::Memory,
+        let number = self.entries.len() as u32 + 1;
+        self.entries.push_reserved(Entry {
+            author: AUTHOR,
+            number,
+            edit,
+        });
+        self.surface = surface;
+        Applied::Done(number, line)
+    }
+
+    fn add_point(&mut self, place: Place, level: Level) -> Applied
+        ensures { Applies 1 (AddPoint place level) self.old self.new result }
+    {
+        if let Some(cause) = self.cause(self.surface.addition_refusal(&self.limits, place)) {
+            return Applied::Refused(self.front(), cause);
+        }
+        match self
+            .surface
+            .with_point(*self.entries.allocator(), place, level)
+        {
+            Ok(surface) => self.enter(Edit::AddPoint(place, level), surface, None),
+            Err(AllocError) => Applied::Memory,
+        }
+    }
+
+    fn remove_point(&mut self, place: Place) -> Applied
+        ensures { Applies 1 (RemovePoint place) self.old self.new result }
+    {
+        if let Some(cause) = self.cause(self.surface.removal_refusal(place)) {
+            return Applied::Refused(self.front(), cause);
+        }
+        match self.surface.without_point(*self.entries.allocator(), place) {
+            Ok(surface) => self.enter(Edit::RemovePoint(place), surface, None),
+            Err(AllocError) => Applied::Memory,
+        }
+    }
+
+    fn set_level(&mut self, place: Place, level: Level) -> Applied
+        ensures { Applies 1 (SetLevel place level) self.old self.new result }
+    {
+        if let Some(cause) = self.cause(self.surface.level_refusal(place)) {
+            return Applied::Refused(self.front(), cause);
+        }
+        match self
+            .surface
+            .with_level(*self.entries.allocator(), place, level)
+        {
+            Ok(surface) => self.enter(Edit::SetLevel(place, level), surface, None),
+            Err(AllocError) => Applied::Memory,
+        }
+    }
+
+    fn add_line(&mut self, kind: LineKind, places: Places) -> Applied
+        ensures { Applies 1 (AddLine kind places) self.old self.new result }
+    {
+        let alloc = *self.entries.allocator();
+        let Ok(line) = copy_of(alloc, kind, &places) else {
+            return Applied::Memory;
+        };
+        let Ok(own) = self.surface.line_refusal(alloc, &self.limits, &line) else {
+            return Applied::Memory;
+        };
+        if let Some(cause) = self.cause(own) {
+            return Applied::Refused(self.front(), cause);
+        }
+        let id = self.surface.lines().next();
+        match self.surface.with_line(alloc, line) {
+            Ok(surface) => self.enter(Edit::AddLine(kind, places), surface, Some(id)),
+            Err(AllocError) => Applied::Memory,
+        }
+    }
+
+    fn remove_line(&mut self, id: LineId) -> Applied
+        ensures { Applies 1 (RemoveLine id) self.old self.new result }
+    {
+        if let Some(cause) = self.cause(self.surface.number_refusal(id)) {
+            return Applied::Refused(self.front(), cause);
+        }
+        match self.surface.without_line(*self.entries.allocator(), id) {
+            Ok(surface) => self.enter(Edit::RemoveLine(id), surface, None),
+            Err(AllocError) => Applied::Memory,
+        }
+    }
+
+    /// Makes the edit as the author's next entry, if that is lawful. Want of memory changes nothing.
+    pub(crate) fn apply(&mut self, edit: Edit) -> Applied
+        ensures { Applies 1 edit self.old self.new result }
+    {
+        match edit {
+            Edit::AddPoint(place, level) => self.add_point(place, level),
+            Edit::RemovePoint(place) => self.remove_point(place),
+            Edit::SetLevel(place, level) => self.set_level(place, level),
+            Edit::AddLine(kind, places) => self.add_line(kind, places),
+            Edit::RemoveLine(id) => self.remove_line(id),
         }
     }
 }

@@ -9,13 +9,13 @@ use session::{Ended, Store, talk};
 use std::alloc::Global;
 use std::test::Fail;
 
-fn command(alloc: Global, word: &str) -> Result<Vec<String>, Fail> {
+pub(crate) fn command(alloc: Global, word: &str) -> Result<Vec<String>, Fail> {
     let mut words = Vec::new(alloc);
     words.push(String::from_str(alloc, word)?)?;
     Ok(words)
 }
 
-fn ground(alloc: Global, limits: Limits) -> Result<Store, Fail> {
+pub(crate) fn ground(alloc: Global, limits: Limits) -> Result<Store, Fail> {
     let head = Head {
         name: Name::from_bytes(alloc, b"ground")?,
         unit: LinearUnit::Meter,
@@ -54,8 +54,13 @@ fn sessions_give_the_worked_replies(rt: HostRuntime) -> Result<(), Fail> {
             Status::Ok,
         ),
         (
-            "sync\ndo unline 7\ncontour 5\nplan line break 0 0 1 1\ndo add 0 536870.913 0\n",
-            "error unbuilt\nerror unbuilt\nerror unbuilt\nerror unbuilt\nerror range\n",
+            "sync\nplan line break 0 0 1 1\ncommit\ncontour 5\nvolume 5\nexport\n",
+            "error unbuilt\nerror unbuilt\nerror unbuilt\nerror unbuilt\nerror unbuilt\nerror unbuilt\n",
+            Status::Ok,
+        ),
+        (
+            "do unline 7\ncontour 67108.865\ndo add 0 536870.913 0\n",
+            "refused 0 no-line 7\nerror range\nerror range\n",
             Status::Ok,
         ),
         (

@@ -1,0 +1,89 @@
+-- What the points and lines of a surface make.
+use Rattle.std.proofs.Common.{◌≡◌, refl, sym, ap, ◌∙◌, List, [], length, cond, None, Some}
+use Rattle.std.specs.Prelude.{ℤ, T, map}
+use Rattle.std.specs.List.{filter}
+use Rattle.std.specs.FinMap as finmap
+use Rattle.std.specs.BTreeMap.{is_at}
+use Rattle.std.specs.Map.{lookup}
+use Rattle.ground_model.specs.declared.edit.Edit.TheVariants.{AddPoint, RemovePoint, SetLevel, AddLine, RemoveLine}
+use Rattle.ground_model.specs.declared.line.LineId.{LineId}
+use Rattle.ground_model.specs.declared.slope.Slope.{Slope}
+use Rattle.ground_model.specs.Place.{Coords, place_cmp}
+use Rattle.ground_model.specs.Line.{Line}
+use Rattle.ground_model.specs.Content.{Content, empty, after, points_of, level_of}
+use Rattle.ground_model.specs.Tri.{facets}
+use Rattle.ground_model.specs.Slope.{relief}
+use Rattle.ground_model.proofs.Contents.{places_total}
+use Rattle.line_table.specs.Table.{Table, no_lines, live, with_line, without_line, pieces_on_all}
+use Rattle.line_table.proofs.Maps.{get_of, added, removed}
+use Rattle.rings.specs.Kept.{is_kept_among}
+use Rattle.session.specs.Surfaces.{content_by, table_of, slope_by, IsSurface}
+use Rattle.session.proofs.Points.{places_apart}
+use Rattle.session.proofs.Reliefs.{relief-by, relief-level}
+
+module _ (es : List (Coords × ℤ)) (t : Table) (sorted : T (finmap.is_sorted place_cmp es)) where
+  pub points_of-content : points_of (content_by es t) ≡ map (λ e. e.0) es
+  points_of-content = ap (map (λ e. e.0)) (finmap.entries-from_sorted place_cmp es sorted)
+
+  pub level_of-content : (p : Coords) → level_of (content_by es t) p ≡ lookup (is_at (place_cmp p)) es
+  level_of-content p = get_of place_cmp es p sorted
+
+  pub relief-content : map (slope_by (λ p. lookup (is_at (place_cmp p)) es)) (filter (is_kept_among (live t)) (facets (map (λ e. e.0) es) (pieces_on_all (map (λ e. e.0) es) (live t)))) ≡ relief (content_by es t)
+  relief-content =
+      let levels : level_of (content_by es t) ≡ (λ p. lookup (is_at (place_cmp p)) es) = λ i p. level_of-content p i in
+      sym (relief-by (content_by es t)
+      ∙ ap (λ level. map (slope_by level) (filter (is_kept_among (live t)) (facets (points_of (content_by es t)) (pieces_on_all (points_of (content_by es t)) (live t))))) levels
+      ∙ ap (λ points. map (slope_by (λ p. lookup (is_at (place_cmp p)) es)) (filter (is_kept_among (live t)) (facets points (pieces_on_all points (live t))))) points_of-content)
+
+  pub len-content : finmap.len (content_by es t).points ≡ length es
+  len-content = finmap.len-entries (content_by es t).points ∙ ap length (finmap.entries-from_sorted place_cmp es sorted)
+
+-- ---- no points and no lines
+
+pub content-empty : content_by [] no_lines ≡ empty
+unfolding empty
+content-empty = ap (λ points. record { points = points; lines = finmap.empty; next_line = 1 }) (finmap.empty_of_len (finmap.from_sorted []) (finmap.len-entries (finmap.from_sorted []) ∙ ap length (finmap.entries-from_sorted place_cmp [] tt)))
+
+surface_of_nothing : IsSurface [] no_lines []
+unfolding facets
+surface_of_nothing = record { sorted = tt; slopes_are = relief-content [] no_lines tt }
+
+pub surface_empty : (es : List (Coords × ℤ)) (t : Table) (slopes : List Slope) → es ≡ [] → t ≡ no_lines → slopes ≡ [] → IsSurface es t slopes
+surface_empty es t slopes e f g = rw (e, f, g) surface_of_nothing
+
+pub seen_empty : (es : List (Coords × ℤ)) (t : Table) → es ≡ [] → t ≡ no_lines → content_by es t ≡ empty
+seen_empty es t e f = rw (e, f) content-empty
+
+-- ---- an edit made
+
+module _ (es fs : List (Coords × ℤ)) (t : Table) (p : Coords) (before : T (finmap.is_sorted place_cmp es)) (now : T (finmap.is_sorted place_cmp fs)) where
+  pub content-added : (z : ℤ) → ((q : Coords) → lookup (is_at (place_cmp q)) fs ≡ cond (is_at (place_cmp p) q) (Some z) (lookup (is_at (place_cmp q)) es)) → content_by fs t ≡ after (content_by es t) (AddPoint p z)
+  unfolding after
+  content-added z h = ap (λ points. record { points = points; lines = t.lines; next_line = t.next }) (added places_total places_apart es fs p z before now h)
+
+  pub content-removed : ((q : Coords) → lookup (is_at (place_cmp q)) fs ≡ cond (is_at (place_cmp p) q) None (lookup (is_at (place_cmp q)) es)) → content_by fs t ≡ after (content_by es t) (RemovePoint p)
+  unfolding after
+  content-removed h = ap (λ points. record { points = points; lines = t.lines; next_line = t.next }) (removed places_total places_apart es fs p before now h)
+
+-- a level is set as a point is added
+pub set-is-added : (c : Content) (p : Coords) (z : ℤ) → after c (AddPoint p z) ≡ after c (SetLevel p z)
+unfolding after
+set-is-added c p z = refl
+
+-- the slopes with the levels of points at the same places, of which one is set
+pub slopes-set : (c : Content) (fs : List (Coords × ℤ)) (t : Table) (p : Coords) (z : ℤ) (slopes : List Slope) → T (finmap.is_sorted place_cmp fs) → content_by fs t ≡ after c (AddPoint p z) → map (λ e. e.0) fs ≡ points_of c → slopes ≡ relief c
+    → map (λ s. slope_by (λ q. lookup (is_at (place_cmp q)) fs) s.facet) slopes ≡ relief (content_by fs t)
+slopes-set c fs t p z slopes sorted made keys were =
+    let levels : (λ q. lookup (is_at (place_cmp q)) fs) ≡ level_of (content_by fs t) = λ i q. sym (level_of-content fs t sorted q) i in
+    let content : content_by fs t ≡ after c (SetLevel p z) = made ∙ set-is-added c p z in
+    let points : points_of (after c (SetLevel p z)) ≡ points_of c = ap points_of (sym content) ∙ points_of-content fs t sorted ∙ keys in
+    ap (λ level. map (λ s. slope_by level s.facet) slopes) levels ∙ ap (map (λ s. slope_by (level_of (content_by fs t)) s.facet)) were
+    ∙ ap (λ d. map (λ s. slope_by (level_of d) s.facet) (relief c)) content ∙ sym (relief-level c p z points) ∙ ap relief (sym content)
+
+pub with_line-after : (c : Content) (line : Line) → record { points = c.points; lines = (with_line (table_of c) line).lines; next_line = (with_line (table_of c) line).next } ≡ after c (AddLine line.kind line.places)
+unfolding after
+with_line-after c line = refl
+
+pub without_line-after : (c : Content) (id : LineId) → record { points = c.points; lines = (without_line (table_of c) id.0).lines; next_line = (without_line (table_of c) id.0).next } ≡ after c (RemoveLine id)
+unfolding after
+without_line-after c id = refl

@@ -1,8 +1,0 @@
-use Rattle.session.proofs.LineReplies.{serves_done, serves_refused}
-use Rattle.session.proofs.conversation.reply_to_addition.Goals as goal
-
-pub returns-in-Done-clause-serves : goal.returns-in-Done-clause-serves
-returns-in-Done-clause-serves c = serves_done 1 c.args.store.now c.add_point.new.self c.args.place c.args.level c.in-Done.front c.in-Done.ensures
-
-pub returns-in-Refused-clause-serves : goal.returns-in-Refused-clause-serves
-returns-in-Refused-clause-serves c = serves_refused 1 c.args.store.now c.add_point.new.self c.args.place c.args.level c.in-Refused.front c.in-Refused.cause c.in-Refused.ensures

@@ -1,0 +1,17 @@
+use Rattle.std.proofs.Common.{◌≡◌, refl, ap, ◌∙◌, [], ◌∷◌, length, rules}
+use Rattle.std.specs.Prelude.{nat_le}
+use Rattle.ground_model.specs.declared.limits.Limits.{Limits}
+use Rattle.ground_model.specs.declared.refusal.Refusal.TheVariants.{LogFull}
+use Rattle.ground_model.specs.Refusal.{first_of, when, refusal}
+use Rattle.session.proofs.store.Store.cause.Goals as goal
+
+pub returns-clause-value : goal.returns-clause-value
+unfolding refusal
+returns-clause-value c edit own =
+    let entries : c.len.result ≡ length c.self.inside.entries.items = search rules in
+    let limits : c.self.inside.limits ≡ c.args.self.now.limits = rw (← c.self.view_is) refl in
+    let log : c.self.inside.entries.items ≡ c.args.self.now.log = rw (← c.self.view_is) refl in
+    c.first_cause.ensures.value
+    ∙ ap (λ n. first_of (c.args.own ∷ when (nat_le c.self.inside.limits.log n) LogFull ∷ [])) (entries ∙ ap length log)
+    ∙ ap (λ (most : Limits). first_of (c.args.own ∷ when (nat_le most.log (length c.args.self.now.log)) LogFull ∷ [])) limits
+    ∙ ap (λ first. first_of (first ∷ when (nat_le c.args.self.now.limits.log (length c.args.self.now.log)) LogFull ∷ [])) own

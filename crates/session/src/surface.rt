@@ -1,0 +1,215 @@
+//! The surface of a content: its points, its lines and their relief.
+
+ghost use Rattle.std.specs.Prelude.{◌≡◌, ◌<◌, ◌^◌, ◌-◌, length, IfOk, IsSome, T};
+ghost use Rattle.std.specs.FinMap as map;
+ghost use Rattle.std.specs.BTreeMap.{keys};
+ghost use Rattle.ground_model.specs.declared.edit.Edit.TheVariants.{AddPoint, RemovePoint, SetLevel, AddLine, RemoveLine};
+ghost use Rattle.ground_model.specs.Place.{place_cmp};
+ghost use Rattle.ground_model.specs.Content.{empty, after, level_of, points_of};
+ghost use Rattle.ground_model.specs.Level.{level_at};
+ghost use Rattle.ground_model.specs.Slope.{relief};
+ghost use Rattle.line_table.specs.Table.{Table, with_line, without_line};
+ghost use Rattle.session.specs.Surfaces.{content_by, table_of};
+
+use crate::slopes::{no_slopes, places_of, releveled, relief_of};
+use ground_model::{Level, LineId, Place};
+use line_table::{Line, Lines};
+use measures::{SlopeList, level as level_on};
+use std::alloc::{AllocError, Global};
+use std::collections::BTreeMap;
+use std::marker::Model;
+
+/// The points and the live lines of a surface, with the relief that they have.
+#[derive(Drop)]
+pub(crate) struct Surface {
+    points: BTreeMap<Place, Level>,
+    lines: Lines,
+    slopes: SlopeList,
+}
+
+impl Model for Surface {
+    ghost use Rattle.ground_model.specs.Content.{Content};
+    ghost use Rattle.session.specs.Surfaces.{content_by, coded_content, IsSurface};
+
+    ghost Value = { Content };
+
+    ghost coded = { coded_content };
+
+    ghost view = { λ s. content_by s.points.entries s.lines };
+
+    ghost invariant = { λ s. IsSurface s.points.entries s.lines s.slopes };
+}
+
+impl Surface {
+    /// The surface of no points. It takes no memory.
+    pub(crate) fn empty(alloc: Global) -> Surface
+        ensures { result ≡ empty }
+    {
+        Surface {
+            points: BTreeMap::new(alloc),
+            lines: Lines::empty(alloc),
+            slopes: no_slopes(alloc),
+        }
+    }
+
+    /// How many points there are.
+    pub(crate) fn points(&self) -> usize
+        ensures { result ≡ map.len self.now.points }
+    {
+        self.points.len()
+    }
+
+    /// The live lines.
+    pub(crate) fn lines(&self) -> &Lines
+        ensures { result.now ≡ table_of self.now }
+    {
+        &self.lines
+    }
+
+    /// The level of a point.
+    pub(crate) fn level_of(&self, place: Place) -> Option<Level>
+        ensures { result ≡ level_of self.now place }
+    {
+        self.points.get(&place).copied()
+    }
+
+    /// The places of the points, in order.
+    pub(crate) fn places(&self, alloc: Global) -> Result<Vec<Place>, AllocError>
+        ensures { IfOk result (λ places. places.items ≡ points_of self.now) }
+    {
+        places_of(alloc, &self.points)
+    }
+
+    /// The level of the surface at the place, None outside it. It takes no memory.
+    pub(crate) fn level(&self, place: Place) -> Option<Level>
+        ensures { result ≡ level_at (relief self.now) place }
+    {
+        level_on(&self.slopes, place)
+    }
+
+    // The surface of these points and lines.
+    fn of(
+        alloc: Global,
+        points: BTreeMap<Place, Level>,
+        lines: Lines,
+    ) -> Result<Surface, AllocError>
+        requires { T (map.is_sorted place_cmp points.entries) }
+        ensures { IfOk result (λ surface. surface ≡ content_by points.entries lines) }
+    {
+        let slopes = relief_of(alloc, &points, &lines)?;
+        Ok(Surface {
+            points,
+            lines,
+            slopes,
+        })
+    }
+
+    // A copy of the points, with this level at the place.
+    fn points_with(&self, place: Place, level: Level) -> Result<BTreeMap<Place, Level>, AllocError>
+        ensures content { IfOk result (λ points. content_by points.entries (table_of self.now) ≡ after self.now (AddPoint place level)) }
+        ensures sorted { IfOk result (λ points. T (map.is_sorted place_cmp points.entries)) }
+        ensures places { IsSome (level_of self.now place) → IfOk result (λ points. keys points ≡ points_of self.now) }
+    {
+        let mut points = self.points.clone()?;
+        points.insert(place, level)?;
+        Ok(points)
+    }
+
+    // A copy of the points without that at the place.
+    fn points_without(&self, place: Place) -> Result<BTreeMap<Place, Level>, AllocError>
+        ensures content { IfOk result (λ points. content_by points.entries (table_of self.now) ≡ after self.now (RemovePoint place)) }
+        ensures sorted { IfOk result (λ points. T (map.is_sorted place_cmp points.entries)) }
+    {
+        let mut points = self.points.clone()?;
+        let _level = points.remove(&place);
+        Ok(points)
+    }
+
+    /// This surface with a point added.
+    pub(crate) fn with_point(
+        &self,
+        alloc: Global,
+        place: Place,
+        level: Level,
+    ) -> Result<Surface, AllocError>
+        ensures { IfOk result (λ surface. surface ≡ after self.now (AddPoint place level)) }
+    {
+        Surface::of(alloc, self.points_with(place, level)?, self.lines.share()?)
+    }
+
+    /// This surface with a point removed.
+    pub(crate) fn without_point(&self, alloc: Global, place: Place) -> Result<Surface, AllocError>
+        ensures { IfOk result (λ surface. surface ≡ after self.now (RemovePoint place)) }
+    {
+        Surface::of(alloc, self.points_without(place)?, self.lines.share()?)
+    }
+
+    /// This surface with another level of a point: its facets stay.
+    pub(crate) fn with_level(
+        &self,
+        alloc: Global,
+        place: Place,
+        level: Level,
+    ) -> Result<Surface, AllocError>
+        requires { IsSome (level_of self.now place) }
+        ensures { IfOk result (λ surface. surface ≡ after self.now (SetLevel place level)) }
+    {
+        let points = self.points_with(place, level)?;
+        let slopes = releveled(alloc, &points, &self.slopes)?;
+        let lines = self.lines.share()?;
+        Ok(Surface {
+            points,
+            lines,
+            slopes,
+        })
+    }
+
+    // A copy of the points.
+    fn same_points(&self) -> Result<BTreeMap<Place, Level>, AllocError>
+        ensures content { IfOk result (λ points. (t : Table) → content_by points.entries t ≡ record self.now { lines = t.lines; next_line = t.next }) }
+        ensures sorted { IfOk result (λ points. T (map.is_sorted place_cmp points.entries)) }
+    {
+        self.points.clone()
+    }
+
+    // The lines with one more, under the next number.
+    fn lines_with(&self, line: Line) -> Result<Lines, AllocError>
+        requires few { map.len self.now.lines < 65535 }
+        requires numbers { self.now.next_line < 2 ^ 32 - 1 }
+        requires short { length line.places < 2 ^ 32 }
+        ensures { IfOk result (λ lines. lines ≡ with_line (table_of self.now) line) }
+    {
+        let mut lines = self.lines.share()?;
+        let (kind, places) = line.into_parts();
+        match lines.add(kind, places) {
+            Ok(_) => Ok(lines),
+            Err(_) => Err(AllocError),
+        }
+    }
+
+    // The lines without one.
+    fn lines_without(&self, id: LineId) -> Result<Lines, AllocError>
+        ensures { IfOk result (λ lines. lines ≡ without_line (table_of self.now) id.0) }
+    {
+        let mut lines = self.lines.share()?;
+        let _line = lines.take(id)?;
+        Ok(lines)
+    }
+
+    /// This surface with a line more, under the next number.
+    pub(crate) fn with_line(&self, alloc: Global, line: Line) -> Result<Surface, AllocError>
+        requires few { map.len self.now.lines < 65535 }
+        requires numbers { self.now.next_line < 2 ^ 32 - 1 }
+        requires short { length line.places < 2 ^ 32 }
+        ensures { IfOk result (λ surface. surface ≡ after self.now (AddLine line.kind line.places)) }
+    {
+        Surface::of(alloc, self.same_points()?, self.lines_with(line)?)
+    }
+
+    /// This surface with a line taken out.
+    pub(crate) fn without_line(&self, alloc: Global, id: LineId) -> Result<Surface, AllocError>
+        ensures { IfOk result (λ surface. surface ≡ after self.now (RemoveLine id)) }
+    {
+        Surface::of(alloc, self.same_points()?, self.lines_without(id)?)
+    }
+}
