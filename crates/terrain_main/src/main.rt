@@ -4,6 +4,8 @@
 
 mod command;
 #[cfg(test)]
+mod line_tests;
+#[cfg(test)]
 mod reply_tests;
 mod status;
 #[cfg(test)]
