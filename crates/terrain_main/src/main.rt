@@ -6,6 +6,8 @@ mod command;
 #[cfg(test)]
 mod line_tests;
 #[cfg(test)]
+mod refusal_tests;
+#[cfg(test)]
 mod reply_tests;
 mod status;
 #[cfg(test)]

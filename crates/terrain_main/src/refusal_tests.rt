@@ -1,0 +1,158 @@
+//! The refusals of each edit, and which of two that hold comes first.
+
+ghost use Rattle.std.specs.Prelude.{◌≤◌, IfOk};
+
+use crate::line_tests::Session;
+use crate::tests::ground;
+use ground_io::MemLink;
+use ground_model::Limits;
+use session::{Ended, talk};
+use std::alloc::Global;
+use std::process::Abort;
+use std::test::Fail;
+
+// The named limit in words such as `points 1, log 2`, or else the most.
+fn limit_in(words: &str, name: &str, most: u32) -> Result<u32, Fail>
+    ensures { IfOk result (λ limit. limit ≤ most) }
+{
+    for limit in words.split(", ") {
+        match limit.split_once(' ') {
+            Some((found, number)) if found == name => return Ok(most.min(number.parse()?)),
+            _ => {}
+        }
+    }
+    Ok(most)
+}
+
+// The full limits, but for those in the words.
+fn limits_of(words: &str) -> Result<Limits, Fail> {
+    let full = Limits::FULL;
+    Ok(Limits {
+        points: limit_in(words, "points", full.points)?,
+        lines: limit_in(words, "lines", full.lines)?,
+        places: limit_in(words, "places", full.places)?,
+        vertices: limit_in(words, "vertices", full.vertices)?,
+        log: limit_in(words, "log", full.log)?,
+    })
+}
+
+// Asks the one request of each row on a surface of its own: its points and the rows `before` come
+// first. A row is a name, the limits, the request and its reply.
+fn ask_each(
+    rt: &impl Abort,
+    alloc: Global,
+    points: &str,
+    before: &[&str],
+    table: &str,
+) -> Result<(), Fail> {
+    for row in table.split('\n') {
+        let (name, row) = row.split_once('|').ok_or("a row without limits")?;
+        let (limits, row) = row.split_once('|').ok_or("a row without a request")?;
+        let mut session = Session::with_points(alloc, points)?;
+        for rows in before {
+            session.ask(rows)?;
+        }
+        session.ask(row)?;
+        let mut store = ground(alloc, limits_of(limits)?)?;
+        let mut link = MemLink::new(alloc, session.input.as_bytes(), 1024, &[], &[])?;
+        let ended = talk(alloc, &mut store, &mut link, 10_000);
+        assert_eq!(rt; ended, Ended::End, "{name}");
+        let written = str::from_utf8(link.written())?;
+        assert_eq!(rt; written, session.output.as_str(), "{name}");
+    }
+    Ok(())
+}
+
+// After one point.
+const OF_POINTS: &str = "\
+occupied||do add 0 0 5|refused 1 occupied 2.000
+occupied before points-full|points 1|do add 0 0 5|refused 1 occupied 2.000
+occupied before log-full|log 1|do add 0 0 5|refused 1 occupied 2.000
+points-full|points 1|do add 1 0 0|refused 1 points-full
+points-full before log-full|points 1, log 1|do add 1 0 0|refused 1 points-full
+log-full to a point added|log 1|do add 1 0 0|refused 1 log-full
+the last point and the last entry|points 2, log 2|do add 1 0 0|done 2
+absent to a point removed||do remove 1 0|refused 1 absent 1.000 0.000
+absent to a point removed before log-full|log 1|do remove 1 0|refused 1 absent 1.000 0.000
+log-full to a point removed|log 1|do remove 0 0|refused 1 log-full
+absent to a level set||do set 1 0 5|refused 1 absent 1.000 0.000
+absent to a level set before log-full|log 1|do set 1 0 5|refused 1 absent 1.000 0.000
+log-full to a level set|log 1|do set 0 0 5|refused 1 log-full
+no-line||do unline 1|refused 1 no-line 1
+no-line before log-full|log 1|do unline 1|refused 1 no-line 1";
+
+// After two lines over a square's diagonals, and a point where they meet.
+const OF_JOINTS: &str = "\
+held||do remove 10 0|refused 7 held 2
+held before log-full|log 7|do remove 10 0|refused 7 held 2
+joint||do remove 5 5|refused 7 joint 1 2
+joint before log-full|log 7|do remove 5 5|refused 7 joint 1 2
+log-full to a line removed|log 7|do unline 1|refused 7 log-full
+the last entry|log 8|do unline 1|done 8";
+
+// After a square without lines.
+const OF_LINES: &str = "\
+short to a breakline||do line break 0 0|refused 4 short
+short to a ring||do line island 0 0 0 10|refused 4 short
+short before repeated||do line outer 0 0 0 0|refused 4 short
+short before not-point||do line break 5 5|refused 4 short
+short before vertices-full|places 0|do line break 0 0|refused 4 short
+short before lines-full|lines 0|do line break 0 0|refused 4 short
+short before log-full|log 4|do line break 0 0|refused 4 short
+repeated||do line break 0 0 0 10 0 10|refused 4 repeated 3
+repeated where a ring closes||do line outer 0 0 0 10 10 10 0 0|refused 4 repeated 4
+repeated before not-point||do line break 5 5 5 5|refused 4 repeated 2
+repeated before vertices-full|places 1|do line break 0 0 0 0|refused 4 repeated 2
+repeated before lines-full|lines 0|do line break 0 0 0 0|refused 4 repeated 2
+repeated before self-cross||do line break 0 0 10 10 10 0 0 10 0 10|refused 4 repeated 5
+repeated before log-full|log 4|do line break 0 0 0 0|refused 4 repeated 2
+not-point||do line break 0 0 5 5 6 6|refused 4 not-point 2
+not-point before vertices-full|places 1|do line break 0 0 5 5|refused 4 not-point 2
+not-point before lines-full|lines 0|do line break 0 0 5 5|refused 4 not-point 2
+not-point before self-cross||do line break 0 0 10 10 10 0 0 10 5 5|refused 4 not-point 5
+not-point before log-full|log 4|do line break 0 0 5 5|refused 4 not-point 2
+vertices-full to one line|places 2|do line break 0 0 0 10 10 0|refused 4 vertices-full
+vertices-full to the first line|vertices 2|do line break 0 0 0 10 10 0|refused 4 vertices-full
+vertices-full before lines-full|places 1, lines 0|do line break 0 0 0 10|refused 4 vertices-full
+vertices-full before self-cross|places 3|do line break 0 0 10 10 10 0 0 10|refused 4 vertices-full
+vertices-full before log-full|places 1, log 4|do line break 0 0 0 10|refused 4 vertices-full
+lines-full|lines 0|do line break 0 0 0 10 10 0|refused 4 lines-full
+lines-full before self-cross|lines 0|do line break 0 0 10 10 10 0 0 10|refused 4 lines-full
+lines-full before log-full|lines 0, log 4|do line break 0 0 0 10|refused 4 lines-full
+self-cross||do line break 0 0 10 10 10 0 0 10|refused 4 self-cross 1 3
+self-cross before log-full|log 4|do line break 0 0 10 10 10 0 0 10|refused 4 self-cross 1 3
+log-full to a line added|log 4|do line break 0 0 0 10|refused 4 log-full
+the last place, line and entry|places 2, lines 1, log 5|do line break 0 0 0 10|done 5 line 1";
+
+// After a square and a line over its diagonal.
+const OF_TWO_LINES: &str = "\
+short before crosses||do line outer 10 0 0 10|refused 5 short
+repeated before crosses||do line break 10 0 0 10 0 10|refused 5 repeated 3
+not-point before crosses||do line break 10 0 0 10 5 5|refused 5 not-point 3
+vertices-full to all lines|vertices 4|do line break 0 0 0 10 10 10|refused 5 vertices-full
+vertices-full before crosses|vertices 3|do line break 10 0 0 10|refused 5 vertices-full
+lines-full before crosses|lines 1|do line break 10 0 0 10|refused 5 lines-full
+self-cross before crosses||do line break 0 0 10 10 10 0 0 10|refused 5 self-cross 1 3
+crosses||do line break 10 0 0 10|refused 5 crosses 1
+crosses before log-full|log 5|do line break 10 0 0 10|refused 5 crosses 1
+the last places and the last line|vertices 4, lines 2|do line break 0 0 0 10|done 6 line 2";
+
+const SQUARE: &str = "0 0 2, 0 10 0, 10 0 0, 10 10 4";
+
+const DIAGONALS: &str = "\
+do line break 0 0 10 10|done 6 line 1
+do line break 10 0 0 10|done 7 line 2";
+
+#[test]
+fn each_refusal_comes_before_the_next(rt: HostRuntime) -> Result<(), Fail> {
+    let alloc = rt.alloc();
+    ask_each(&rt, alloc, "0 0 2", &[], OF_POINTS)?;
+    let with_centre = "0 0 2, 0 10 0, 10 0 0, 10 10 4, 5 5 0";
+    ask_each(&rt, alloc, with_centre, &[DIAGONALS], OF_JOINTS)?;
+    let along = "do line break 5 5 10 10|done 8 line 3";
+    let held = "held before joint||do remove 5 5|refused 8 held 3";
+    ask_each(&rt, alloc, with_centre, &[DIAGONALS, along], held)?;
+    ask_each(&rt, alloc, SQUARE, &[], OF_LINES)?;
+    let diagonal = "do line break 0 0 10 10|done 5 line 1";
+    ask_each(&rt, alloc, SQUARE, &[diagonal], OF_TWO_LINES)
+}
