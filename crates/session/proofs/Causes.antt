@@ -47,6 +47,10 @@ shifted test n i (x ∷ xs) = at (test x) (ap (λ m. position_from test m xs) (o
 pub position-from : {X : Type 0} (test : X → Bool) (n : ℕ) (xs : List X) → position_from test n xs ≡ option_map (λ k. k + n) (position test xs)
 position-from test n xs = ap (λ m. position_from test m xs) (omega arith) ∙ shifted test n 0 xs ∙ ap (option_map (λ k. k + n)) (sym (position_from-zero test xs))
 
+-- the same, of what was searched as another list
+pub placed : {X : Type 0} (test : X → Bool) (seen xs : List X) (found : Option ℕ) → found ≡ position test seen → seen ≡ xs → position_from test 1 xs ≡ option_map (λ k. k + 1) found
+placed test seen xs found is same = position-from test 1 xs ∙ ap (option_map (λ k. k + 1)) (sym (is ∙ ap (position test) same))
+
 some_of : {X : Type 0} (x y : X) → Some x ≡ Some y → x ≡ y
 some_of x y e = cc
 

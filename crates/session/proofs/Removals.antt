@@ -1,4 +1,4 @@
--- Why a point is not removed, or its level not set.
+-- Why a point is not removed or its level not set, and why a line is not added.
 use Rattle.std.proofs.Common.{◌≡◌, ℕ, refl, sym, ap, subst, ◌∙◌, List, Bool, true, false, cond, Some, None}
 use Rattle.std.specs.Prelude.{ℤ, Option, is_some, IsSome, not, ◌&&◌, IsTrue, All}
 use Rattle.std.specs.List.{list_any}
@@ -8,8 +8,10 @@ use Rattle.std.specs.FinMap as finmap
 use Rattle.ground_model.specs.declared.limits.Limits.{Limits}
 use Rattle.ground_model.specs.declared.line.LineKind.{LineKind}
 use Rattle.ground_model.specs.declared.edit.Edit.TheVariants.{RemovePoint, SetLevel, AddLine}
+use Rattle.ground_model.specs.declared.refusal.Refusal.{Refusal}
 use Rattle.ground_model.specs.declared.refusal.Refusal.TheVariants.{Absent, Joint}
 use Rattle.ground_model.specs.Place.{Coords, place_cmp, is_same}
+use Rattle.ground_model.specs.Line.{Line}
 use Rattle.ground_model.specs.Content.{Content, after, points_of, lines_of, level_of}
 use Rattle.ground_model.specs.Refusal.{edit_refusal, line_refusal, when, because, id, joint, line_where, lines_cross}
 use Rattle.ground_model.proofs.Contents.{places_total}
@@ -65,6 +67,11 @@ level-there c limits p z lawful = by_level (level_of c p) lawful
     by_level None e = cc
     by_level (Some z) e = refl
 
-pub line-edit : (c : Content) (limits : Limits) (kind : LineKind) (places : List Coords) → line_refusal c limits (record { kind = kind; places = places }) ≡ edit_refusal c limits (AddLine kind places)
+line-edit : (c : Content) (limits : Limits) (kind : LineKind) (places : List Coords) → line_refusal c limits (record { kind = kind; places = places }) ≡ edit_refusal c limits (AddLine kind places)
 unfolding edit_refusal
 line-edit c limits kind places = refl
+
+-- the cause of a line, as that of the edit which adds it
+pub line-cause : (c d : Content) (limits : Limits) (line : Line) (kind : LineKind) (places : List Coords) (own : Option Refusal) → own ≡ line_refusal c limits line → line ≡ record { kind = kind; places = places } → c ≡ d → own ≡ edit_refusal d limits (AddLine kind places)
+line-cause c d limits line kind places own is made same =
+    is ∙ ap (line_refusal c limits) made ∙ ap (λ e. line_refusal e limits (record { kind = kind; places = places })) same ∙ line-edit d limits kind places

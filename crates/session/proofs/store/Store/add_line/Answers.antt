@@ -1,12 +1,11 @@
-use Rattle.std.proofs.Common.{◌≡◌, ◌<◌, refl, sym, ap, subst, ◌∙◌, IfNone}
+use Rattle.std.proofs.Common.{◌≡◌, ◌<◌, refl, sym, subst, IfNone}
 use Rattle.std.specs.FinMap as map
 use Rattle.ground_model.specs.declared.edit.Edit.TheVariants.{AddLine}
-use Rattle.ground_model.specs.Line.{Line}
 use Rattle.ground_model.specs.History.{content_of}
-use Rattle.ground_model.specs.Refusal.{edit_refusal, line_refusal}
+use Rattle.ground_model.specs.Refusal.{edit_refusal}
 use Rattle.line_table.specs.Planar.{IsPlanar}
 use Rattle.line_table.proofs.Planar.{planar-legal}
-use Rattle.session.proofs.Removals.{line-edit}
+use Rattle.session.proofs.Removals.{line-cause}
 use Rattle.session.proofs.store.Store.add_line.Goals as goal
 
 pub line_refusal-requires-clause-planar : goal.line_refusal-requires-clause-planar
@@ -14,10 +13,8 @@ line_refusal-requires-clause-planar c = subst IsPlanar (sym c.self.invariant.con
 
 pub returns-in-Some : goal.returns-in-Some
 returns-in-Some c =
-    let line : ◌≡◌ {A = Line} c.in-Ok.line (record { kind = c.args.kind; places = c.args.places }) = c.in-Ok.ensures.line in
     let own : c.in-Ok-line_refusal.own ≡ edit_refusal (content_of c.args.self.now.log) c.args.self.now.limits (AddLine c.args.kind c.args.places) =
-    rw (← c.self.view_is) (c.in-Ok-line_refusal.ensures.value ∙ ap (line_refusal c.self.inside.surface c.self.inside.limits) line
-    ∙ ap (λ s. line_refusal s c.self.inside.limits (record { kind = c.args.kind; places = c.args.places })) c.self.invariant.content ∙ line-edit (content_of c.self.inside.entries.items) c.self.inside.limits c.args.kind c.args.places) in
+    rw (← c.self.view_is) (line-cause _ _ _ _ _ _ _ c.in-Ok-line_refusal.ensures.value c.in-Ok.ensures.line c.self.invariant.content) in
     (sym (c.in-Some.ensures.value (AddLine c.args.kind c.args.places) own), c.front.ensures.value, refl)
 
 pub with_line-requires-clause-few : goal.with_line-requires-clause-few
@@ -25,8 +22,6 @@ with_line-requires-clause-few c = subst (λ own. IfNone own (map.len c.self.insi
 
 pub enter-requires-clause-lawful : goal.enter-requires-clause-lawful
 enter-requires-clause-lawful c =
-    let line : ◌≡◌ {A = Line} c.in-Ok.line (record { kind = c.args.kind; places = c.args.places }) = c.in-Ok.ensures.line in
     let own : c.in-Ok-line_refusal.own ≡ edit_refusal (content_of c.args.self.now.log) c.args.self.now.limits (AddLine c.args.kind c.args.places) =
-    rw (← c.self.view_is) (c.in-Ok-line_refusal.ensures.value ∙ ap (line_refusal c.self.inside.surface c.self.inside.limits) line
-    ∙ ap (λ s. line_refusal s c.self.inside.limits (record { kind = c.args.kind; places = c.args.places })) c.self.invariant.content ∙ line-edit (content_of c.self.inside.entries.items) c.self.inside.limits c.args.kind c.args.places) in
+    rw (← c.self.view_is) (line-cause _ _ _ _ _ _ _ c.in-Ok-line_refusal.ensures.value c.in-Ok.ensures.line c.self.invariant.content) in
     sym (c.in_default-cause.ensures.value (AddLine c.args.kind c.args.places) own)
