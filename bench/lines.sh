@@ -1,8 +1,8 @@
 #!/bin/sh
-# Processor time of a million `stat` lines and a million faulty lines, from a file to a file, by the built program.
-here=$(cd "$(dirname "$0")/.." && pwd) || exit 1
-program=$here/crates/terrain_main/out/terrain_main
-[ -x "$program" ] || { echo 'build the program first: ./terrain talk </dev/null' >&2; exit 1; }
+# Processor time of a million `stat` lines and a million faulty lines, from a file to a file, by the program of these sources.
+top=$(cd "$(dirname "$0")/.." && pwd) || exit 1
+. "$top/tools/program.sh"
+program=$(fresh_program) || { echo 'no program here is of these sources: run tools/prove first' >&2; exit 1; }
 work=$(mktemp -d) || exit 1
 trap 'rm -rf "$work"' EXIT
 count=1000000

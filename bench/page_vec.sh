@@ -12,17 +12,12 @@ if [ -z "$folder" ]; then
     trap 'rm -rf "$folder"' EXIT
 fi
 mkdir -p "$folder/crates/page_bench/src" "$folder/crates/page_bench/proofs/main"
-for crate in step_counter page_vec; do
-    mkdir -p "$folder/crates/$crate"
-    for part in src specs proofs; do
-        if [ -d "crates/$crate/$part" ]; then
-            rm -rf "$folder/crates/$crate/$part"
-            cp -r "crates/$crate/$part" "$folder/crates/$crate/$part"
-        fi
-    done
+mkdir -p "$folder/crates/page_vec"
+for part in src specs proofs; do
+    rm -rf "$folder/crates/page_vec/$part"
+    cp -r "crates/page_vec/$part" "$folder/crates/page_vec/$part"
 done
-grep -E '^(step_counter|page_vec):' crates.txt > "$folder/crates.txt"
-echo 'page_bench: page_vec step_counter' >> "$folder/crates.txt"
+printf 'page_vec:\npage_bench: page_vec\n' > "$folder/crates.txt"
 
 cat > "$folder/crates/page_bench/proofs/main/Invariants.antt" <<'EOF'
 use Rattle.page_bench.proofs.main.Given as goal
@@ -37,14 +32,13 @@ cat > "$folder/crates/page_bench/src/main.rt" <<'EOF'
 
 ghost use Rattle.std.specs.Prelude.{◌≡◌, ◌<◌};
 
-use page_vec::PageVec;
+use page_vec::{PageVec, Steps};
 use std::alloc::{AllocError, Global};
 use std::fs;
 use std::io;
 use std::marker::Brand;
 use std::sync::ledger::{Blank, Ledger};
 use std::time::CpuClock;
-use step_counter::Steps;
 
 const ROUNDS: u32 = 25;
 
@@ -88,41 +82,41 @@ fn within(x: u64, span: u32) -> u32 {
     }
 }
 
-fn far_places(alloc: Global, span: u32, count: u32) -> Result<Vec<u32>, AllocError> {
+fn far_indices(alloc: Global, span: u32, count: u32) -> Result<Vec<u32>, AllocError> {
     let mut x: u64 = 88172645463325252;
-    let mut places = Vec::new(alloc);
+    let mut indices = Vec::new(alloc);
     for _i in 0..count {
         x = next(x);
-        places.push(within(x, span))?;
+        indices.push(within(x, span))?;
     }
-    Ok(places)
+    Ok(indices)
 }
 
-/// Places within 512 of one another, for 2,048 reads at a time.
-fn near_places(alloc: Global, span: u32, count: u32) -> Result<Vec<u32>, AllocError> {
+/// Indices within 512 of one another, for 2,048 reads at a time.
+fn near_indices(alloc: Global, span: u32, count: u32) -> Result<Vec<u32>, AllocError> {
     let mut x: u64 = 88172645463325252;
     let mut base: u32 = 0;
-    let mut places = Vec::new(alloc);
+    let mut indices = Vec::new(alloc);
     for i in 0..count {
         x = next(x);
         if i % 2048 == 0 {
             base = within(x, span.saturating_sub(512));
             x = next(x);
         }
-        places.push(base.saturating_add(within(x, 512)))?;
+        indices.push(base.saturating_add(within(x, 512)))?;
     }
-    Ok(places)
+    Ok(indices)
 }
 
-/// Eight places in a row from each start.
+/// Eight indices in a row from each start.
 fn rows_of_eight(alloc: Global, starts: &Vec<u32>) -> Result<Vec<u32>, AllocError> {
-    let mut places = Vec::new(alloc);
+    let mut indices = Vec::new(alloc);
     for k in starts {
         for j in 0..8u32 {
-            places.push(k.saturating_add(j))?;
+            indices.push(k.saturating_add(j))?;
         }
     }
-    Ok(places)
+    Ok(indices)
 }
 
 fn now(rt: &HostRuntime) -> io::Result<u64> {
@@ -156,9 +150,9 @@ fn lone_row(rt: &HostRuntime, name: &str, ns: u64, count: u32) -> io::Result<()>
     Ok(())
 }
 
-fn read_plain(slots: &Vec<Slot>, places: &Vec<u32>) -> u32 {
+fn read_plain(slots: &Vec<Slot>, indices: &Vec<u32>) -> u32 {
     let mut sum: u32 = 0;
-    for k in places {
+    for k in indices {
         match slots.get(*k as usize) {
             Some(slot) => sum = sum.wrapping_add(slot.words[7]),
             None => {}
@@ -167,9 +161,9 @@ fn read_plain(slots: &Vec<Slot>, places: &Vec<u32>) -> u32 {
     sum
 }
 
-fn read_pages<L: Ledger>(slots: &PageVec<Slot>, places: &Vec<u32>, steps: &mut Steps<L>) -> u32 {
+fn read_pages<L: Ledger>(slots: &PageVec<Slot>, indices: &Vec<u32>, steps: &mut Steps<L>) -> u32 {
     let mut sum: u32 = 0;
-    for k in places {
+    for k in indices {
         match slots.get(*k, steps) {
             Some(slot) => sum = sum.wrapping_add(slot.words[7]),
             None => {}
@@ -178,21 +172,21 @@ fn read_pages<L: Ledger>(slots: &PageVec<Slot>, places: &Vec<u32>, steps: &mut S
     sum
 }
 
-fn write_plain(slots: &mut Vec<Slot>, places: &Vec<u32>) {
-    for k in places {
-        let place = *k as usize;
-        if place < slots.len() {
-            slots[place] = slot_of(*k);
+fn write_plain(slots: &mut Vec<Slot>, indices: &Vec<u32>) {
+    for k in indices {
+        let index = *k as usize;
+        if index < slots.len() {
+            slots[index] = slot_of(*k);
         }
     }
 }
 
 fn write_pages<L: Ledger>(
     slots: &mut PageVec<Slot>,
-    places: &Vec<u32>,
+    indices: &Vec<u32>,
     steps: &mut Steps<L>,
 ) -> Result<(), AllocError> {
-    for k in places {
+    for k in indices {
         if *k < slots.len() {
             slots.set(*k, slot_of(*k), steps)?;
         }
@@ -203,12 +197,12 @@ fn write_pages<L: Ledger>(
 /// Before every eight writes the version is shared, and the share before it is let go.
 fn write_shared<L: Ledger>(
     slots: &mut PageVec<Slot>,
-    places: &Vec<u32>,
+    indices: &Vec<u32>,
     steps: &mut Steps<L>,
 ) -> Result<(), AllocError> {
     let mut i: u32 = 0;
     let mut held = slots.share()?;
-    for k in places {
+    for k in indices {
         if i % 8 == 0 {
             held = slots.share()?;
         }
@@ -246,17 +240,17 @@ fn measure_reads<L: Ledger>(
     name: &str,
     plain: &Vec<Slot>,
     pages: &PageVec<Slot>,
-    places: &Vec<u32>,
+    indices: &Vec<u32>,
     steps: &mut Steps<L>,
 ) -> io::Result<()> {
     let mut least = NONE_YET;
     let mut agree = true;
     for _i in 0..ROUNDS {
         let start = now(rt)?;
-        let wanted = read_plain(plain, places);
+        let wanted = read_plain(plain, indices);
         least.plain = least.plain.min(since(rt, start)?);
         let start = now(rt)?;
-        let found = read_pages(pages, places, steps);
+        let found = read_pages(pages, indices, steps);
         least.pages = least.pages.min(since(rt, start)?);
         agree = agree && wanted == found;
     }
@@ -271,16 +265,16 @@ fn measure_writes<L: Ledger>(
     name: &str,
     plain: &mut Vec<Slot>,
     pages: &mut PageVec<Slot>,
-    places: &Vec<u32>,
+    indices: &Vec<u32>,
     steps: &mut Steps<L>,
 ) -> io::Result<()> {
     let mut least = NONE_YET;
     for _i in 0..ROUNDS {
         let start = now(rt)?;
-        write_plain(plain, places);
+        write_plain(plain, indices);
         least.plain = least.plain.min(since(rt, start)?);
         let start = now(rt)?;
-        write_pages(pages, places, steps)?;
+        write_pages(pages, indices, steps)?;
         least.pages = least.pages.min(since(rt, start)?);
     }
     row(rt, name, least, EDITS)
@@ -290,13 +284,13 @@ fn measure_shared<L: Ledger>(
     rt: &HostRuntime,
     name: &str,
     pages: &mut PageVec<Slot>,
-    places: &Vec<u32>,
+    indices: &Vec<u32>,
     steps: &mut Steps<L>,
 ) -> io::Result<()> {
     let mut least = u64::MAX;
     for _i in 0..ROUNDS {
         let start = now(rt)?;
-        write_shared(pages, places, steps)?;
+        write_shared(pages, indices, steps)?;
         least = least.min(since(rt, start)?);
     }
     lone_row(rt, name, least, EDITS)
@@ -309,18 +303,18 @@ fn resident(rt: &HostRuntime) -> io::Result<u64> {
     Ok(pages.parse::<u64>().unwrap_or(0).saturating_mul(4096))
 }
 
-/// What a version costs that is held while the newest changes at these places, eight at a time.
+/// What a version costs that is held while the newest changes at these indices, eight at a time.
 fn measure_memory<L: Ledger>(
     rt: &HostRuntime,
     name: &str,
     pages: &mut PageVec<Slot>,
-    places: &Vec<u32>,
+    indices: &Vec<u32>,
     steps: &mut Steps<L>,
 ) -> io::Result<()> {
     let mut held = Vec::new(rt.alloc());
     let before = resident(rt)?;
     let mut i: u32 = 0;
-    for k in places {
+    for k in indices {
         if i % 8 == 0 {
             held.push(pages.share()?)?;
         }
@@ -360,19 +354,19 @@ fn measure_pushes<L: Ledger>(
 fn measure<L: Ledger>(rt: &HostRuntime, count: u32, steps: &mut Steps<L>) -> io::Result<()> {
     println!(rt; "{count} slots | plain array | pages | times")?;
     let (mut plain, mut pages) = measure_pushes(rt, count, steps)?;
-    let near = near_places(rt.alloc(), count, READS)?;
+    let near = near_indices(rt.alloc(), count, READS)?;
     measure_reads(rt, "read, nearby", &plain, &pages, &near, steps)?;
-    let far = far_places(rt.alloc(), count, READS)?;
+    let far = far_indices(rt.alloc(), count, READS)?;
     measure_reads(rt, "read, far apart", &plain, &pages, &far, steps)?;
-    let starts = far_places(rt.alloc(), count.saturating_sub(8), EDITS)?;
+    let starts = far_indices(rt.alloc(), count.saturating_sub(8), EDITS)?;
     let one = rows_of_eight(rt.alloc(), &starts)?;
-    let eight = far_places(rt.alloc(), count, 8 * EDITS)?;
-    measure_writes(rt, "edit of 8 in place, one place", &mut plain, &mut pages, &one, steps)?;
-    measure_writes(rt, "edit of 8 in place, eight places", &mut plain, &mut pages, &eight, steps)?;
-    measure_shared(rt, "edit of 8 on a shared version, one place", &mut pages, &one, steps)?;
-    measure_shared(rt, "edit of 8 on a shared version, eight places", &mut pages, &eight, steps)?;
-    measure_memory(rt, "a version held over an edit in one place", &mut pages, &one, steps)?;
-    measure_memory(rt, "a version held over an edit in eight places", &mut pages, &eight, steps)
+    let eight = far_indices(rt.alloc(), count, 8 * EDITS)?;
+    measure_writes(rt, "edit of 8 in a row, in place", &mut plain, &mut pages, &one, steps)?;
+    measure_writes(rt, "edit of 8 far apart, in place", &mut plain, &mut pages, &eight, steps)?;
+    measure_shared(rt, "edit of 8 in a row, on a shared version", &mut pages, &one, steps)?;
+    measure_shared(rt, "edit of 8 far apart, on a shared version", &mut pages, &eight, steps)?;
+    measure_memory(rt, "a version held over an edit of 8 in a row", &mut pages, &one, steps)?;
+    measure_memory(rt, "a version held over an edit of 8 far apart", &mut pages, &eight, steps)
 }
 
 fn measure_all<L: Ledger>(rt: &HostRuntime, blank: Blank) -> io::Result<()>

@@ -1,5 +1,5 @@
 #!/usr/bin/env bash
-# Prints how many million calls of `side` and `in_circle` a second this machine makes, over random
+# Prints how many million calls of `orientation` and `is_inside` a second this machine makes, over random
 # places and over cocircular ones. The program that times them is made in a folder of its own,
 # from the text below over copies of the crates, proved, built and run; it stays no longer than
 # the script.
@@ -23,8 +23,8 @@ cat > "$work/crates/predicates_bench/src/main.rt" <<'MAIN'
 mod cases;
 
 use cases::{Four, Three};
-use ground_model::{Corner, Place};
-use predicates::{Sign, in_circle, side};
+use ground_model::Place;
+use predicates::orientation;
 use std::alloc::{AllocError, Global};
 use std::io;
 use std::rt::Runtime;
@@ -87,7 +87,7 @@ fn threes(alloc: Global, fours: &[Four]) -> Result<Vec<Three>, AllocError> {
     Ok(found)
 }
 
-// Three places in line.
+// Collinear places.
 fn flat_threes(alloc: Global, fours: &[Four]) -> Result<Vec<Three>, AllocError> {
     let mut found = Vec::new(alloc);
     for f in fours {
@@ -100,7 +100,7 @@ fn flat_threes(alloc: Global, fours: &[Four]) -> Result<Vec<Three>, AllocError> 
 fn left_turns(threes: &[Three]) -> u64 {
     let mut count: u64 = 0;
     for t in threes {
-        count = count.wrapping_add(u64::from(side(Corner::At(t.a), Corner::At(t.b), Corner::At(t.c)) == Sign::Positive));
+        count = count.wrapping_add(u64::from(orientation(t.a, t.b, t.c).is_positive()));
     }
     count
 }
@@ -125,7 +125,7 @@ fn time_sides<R: Runtime>(rt: &R, name: &str, threes: &[Three]) -> io::Result<()
         }
     }
     let micros = start.elapsed(rt)?.as_micros();
-    println!(rt; "side, {name}: {} million calls a second ({left} of {calls} positive)", u128::from(calls) / micros.max(1))
+    println!(rt; "orientation, {name}: {} million calls a second ({left} of {calls} positive)", u128::from(calls) / micros.max(1))
 }
 
 fn time_circles<R: Runtime>(rt: &R, name: &str, fours: &[Four]) -> io::Result<()> {
@@ -139,7 +139,7 @@ fn time_circles<R: Runtime>(rt: &R, name: &str, fours: &[Four]) -> io::Result<()
         }
     }
     let micros = start.elapsed(rt)?.as_micros();
-    println!(rt; "in_circle, {name}: {} million calls a second ({inside} of {calls} inside)", u128::from(calls) / micros.max(1))
+    println!(rt; "is_inside, {name}: {} million calls a second ({inside} of {calls} inside)", u128::from(calls) / micros.max(1))
 }
 
 fn main(rt: HostRuntime) -> io::Result<()> {
@@ -148,7 +148,7 @@ fn main(rt: HostRuntime) -> io::Result<()> {
     let corners = threes(rt.alloc(), random.as_slice())?;
     let flat = flat_threes(rt.alloc(), random.as_slice())?;
     time_sides(&rt, "random places", corners.as_slice())?;
-    time_sides(&rt, "places in line", flat.as_slice())?;
+    time_sides(&rt, "collinear places", flat.as_slice())?;
     time_circles(&rt, "random places", random.as_slice())?;
     time_circles(&rt, "cocircular places", cocircular.as_slice())
 }
@@ -157,11 +157,11 @@ MAIN
 cat > "$work/crates/predicates_bench/src/cases.rt" <<'CASES'
 // The places of one call.
 
-ghost use Rattle.std.specs.Prelude.{◌≡◌, ◌≢◌, IsTrue};
+ghost use Rattle.std.specs.Prelude.{◌≡◌, IsTrue};
 ghost use Rattle.ground_model.specs.Side.{is_left};
 
-use ground_model::{Corner, Place};
-use predicates::{Sign, in_circle, side};
+use ground_model::Place;
+use predicates::{is_inside, orientation};
 
 #[derive(Clone, Copy)]
 pub struct Three {
@@ -177,30 +177,25 @@ pub struct Four {
     pub c: Place,
     pub d: Place,
     ghost turns: { IsTrue (is_left a b c) },
-    ghost not_a: { d ≢ a },
-    ghost not_b: { d ≢ b },
-    ghost not_c: { d ≢ c },
 }
 
 impl Four {
     #[inline(always)]
     pub fn is_inside(&self) -> bool {
-        in_circle(Corner::At(self.a), Corner::At(self.b), Corner::At(self.c), Corner::At(self.d))
+        is_inside(self.a, self.b, self.c, self.d)
     }
 }
 
 fn turns_left(a: Place, b: Place, c: Place) -> bool
     ensures { result ≡ is_left a b c }
 {
-    matches!(side(Corner::At(a), Corner::At(b), Corner::At(c)), Sign::Positive)
+    orientation(a, b, c).is_positive()
 }
 
-// The four, the first three counterclockwise, where they are distinct and turn.
+// The four, the first three counterclockwise, where these are not collinear.
 pub fn make_four(a: Option<Place>, b: Option<Place>, c: Option<Place>, d: Option<Place>) -> Option<Four> {
     let (a, b, c, d) = (a?, b?, c?, d?);
-    if d == a || d == b || d == c {
-        None
-    } else if turns_left(a, b, c) {
+    if turns_left(a, b, c) {
         Some(Four { a, b, c, d })
     } else if turns_left(a, c, b) {
         Some(Four { a, b: c, c: b, d })

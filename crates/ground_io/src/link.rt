@@ -14,4 +14,7 @@ pub trait Link: Source + Sink {
 
     /// A write keeps what is left, the count of failed reads and the references.
     ghost writes_keep: { (l : Self) → Self.beside_writes l ≡ record { known = Self.left l; faults = Self.read_faults l; names = names l } };
+
+    /// Reads and writes stand in one order.
+    ghost one_order: { (l : Self) → Self.read_order l ≡ Self.write_order l };
 }

@@ -48,11 +48,11 @@ impl MemDoor {
         })
     }
 
-    /// The wire handed back at place k, counted from 0.
-    pub fn back(&self, k: usize) -> Option<&MemLink>
-        ensures { option_copied result ≡ slice_get self.now.back k }
+    /// The wire handed back with this index, counted from 0.
+    pub fn back(&self, index: usize) -> Option<&MemLink>
+        ensures { option_copied result ≡ slice_get self.now.back index }
     {
-        self.back.get(k)
+        self.back.get(index)
     }
 }
 

@@ -1,5 +1,5 @@
 //! A link in memory.
-ghost use Rattle.std.specs.Prelude.{◌≡◌, ◌↔◌, ◌⊎◌, ◌+◌, ◌<◌, ◌≤◌, [], Some, length, min, IfOk, IsOk, IsErr, OnErr, refl};
+ghost use Rattle.std.specs.Prelude.{◌≡◌, ◌↔◌, ◌⊎◌, ◌+◌, ◌<◌, ◌≤◌, [], Some, length, min, IfOk, IsOk, IsErr, OnErr, refl, None};
 ghost use Rattle.std.specs.Io.{ReadsAtMost};
 ghost use Rattle.std.specs.Io.KnownBytes.{ReadConsumes, WriteAppends};
 ghost use Rattle.ground_io.specs.Causes.{HasCause};
@@ -59,6 +59,8 @@ impl Source for MemLink {
 
     ghost read_faults = { λ l. l.reads.plan.faults };
 
+    ghost read_order = { λ _. None };
+
     ghost beside_reads = { λ l. record { known = Some l.writes.bytes; faults = l.writes.plan.faults; names = [] } };
 
     fn read(&mut self, into: &mut [u8]) -> Result<usize, Failed>
@@ -80,6 +82,8 @@ impl Sink for MemLink {
     ghost written = { λ l. Some l.writes.bytes };
 
     ghost write_faults = { λ l. l.writes.plan.faults };
+
+    ghost write_order = { λ _. None };
 
     ghost beside_writes = { λ l. record { known = Some l.reads.bytes; faults = l.reads.plan.faults; names = [] } };
 
@@ -106,4 +110,6 @@ impl Link for MemLink {
     ghost reads_keep = { λ _. refl };
 
     ghost writes_keep = { λ _. refl };
+
+    ghost one_order = { λ _. refl };
 }

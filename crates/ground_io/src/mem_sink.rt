@@ -1,5 +1,5 @@
 //! A sink in memory.
-ghost use Rattle.std.specs.Prelude.{◌≡◌, ◌↔◌, ◌⊎◌, ◌+◌, ◌-◌, ◌<◌, ◌≤◌, ◌++◌, [], Some, length, min, vec_len, vec_capacity, IfOk, IsOk, IsErr, OnErr};
+ghost use Rattle.std.specs.Prelude.{◌≡◌, ◌↔◌, ◌⊎◌, ◌+◌, ◌-◌, ◌<◌, ◌≤◌, ◌++◌, [], Some, length, min, vec_len, vec_capacity, IfOk, IsOk, IsErr, OnErr, None};
 ghost use Rattle.std.specs.Io.KnownBytes.{WriteAppends};
 ghost use Rattle.ground_io.specs.Causes.{HasCause};
 ghost use Rattle.ground_io.specs.Streams.{alone, TakesSome};
@@ -54,6 +54,8 @@ impl Sink for MemSink {
 
     ghost write_faults = { λ s. s.plan.faults };
 
+    ghost write_order = { λ _. None };
+
     ghost beside_writes = { λ _. alone };
 
     /// Ok takes the first bytes that fit the room that is left.
@@ -81,7 +83,7 @@ impl Sink for MemSink {
 }
 
 // Appends bytes for which there is room.
-fn push_all(bytes: &mut Vec<u8>, piece: &[u8])
+pub(crate) fn push_all(bytes: &mut Vec<u8>, piece: &[u8])
     requires { vec_len bytes.old + length piece.now ≤ vec_capacity bytes.old }
     ensures bytes { bytes.new.items ≡ bytes.old.items ++ piece.now }
     ensures room { vec_capacity bytes.new ≡ vec_capacity bytes.old }

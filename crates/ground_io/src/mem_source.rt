@@ -1,5 +1,5 @@
 //! A source in memory.
-ghost use Rattle.std.specs.Prelude.{◌≡◌, ◌<◌, [], Some, length, min, take, IfOk, IsOk};
+ghost use Rattle.std.specs.Prelude.{◌≡◌, ◌<◌, [], Some, length, min, take, IfOk, IsOk, None};
 ghost use Rattle.std.specs.Io.{ReadsAtMost};
 ghost use Rattle.std.specs.Io.KnownBytes.{ReadConsumes};
 ghost use Rattle.ground_io.specs.Causes.{HasCause};
@@ -47,6 +47,8 @@ impl Source for MemSource {
     ghost left = { λ s. Some s.bytes };
 
     ghost read_faults = { λ s. s.plan.faults };
+
+    ghost read_order = { λ _. None };
 
     ghost beside_reads = { λ _. alone };
 

@@ -3,6 +3,7 @@ ghost use Rattle.std.specs.Prelude.{◌≡◌, ◌<◌, List, Option, ℕ, lengt
 ghost use Rattle.std.specs.Io.{ReadsAtMost};
 ghost use Rattle.std.specs.Io.KnownBytes.{ReadConsumes};
 ghost use Rattle.ground_io.specs.Causes.{HasCause};
+ghost use Rattle.ground_io.specs.Order.{Event, AddsRead};
 ghost use Rattle.ground_io.specs.Streams.{Rest};
 
 use crate::fault::Failed;
@@ -15,6 +16,9 @@ pub trait Source {
     /// How often a read failed.
     ghost read_faults: { Self → ℕ };
 
+    /// The calls so far that didn't fail, where their order is known.
+    ghost read_order: { Self → Option (List Event) };
+
     /// What a read never changes.
     ghost beside_reads: { Self → Rest };
 
@@ -23,6 +27,7 @@ pub trait Source {
         requires { 0 < length into.old }
         ensures bound { ReadsAtMost result into.new }
         ensures bytes { ReadConsumes (left self.old) (left self.new) result into.new }
+        ensures order { AddsRead (read_order self.old) (read_order self.new) result into.new }
         ensures cause { HasCause (read_faults self.old) (read_faults self.new) result }
         ensures rest { beside_reads self.new ≡ beside_reads self.old };
 }

@@ -1,5 +1,5 @@
 //! Any writer of std as a sink.
-ghost use Rattle.std.specs.Prelude.{◌≡◌};
+ghost use Rattle.std.specs.Prelude.{◌≡◌, None};
 ghost use Rattle.ground_io.specs.Streams.{alone};
 ghost use Rattle.ground_io.specs.Outside.{without_last};
 
@@ -11,8 +11,8 @@ use std::marker::Model;
 /// A writer of std that counts its faults: each Err, and a writer that takes nothing. Each piece is
 /// flushed before its write answers, so a client that waits for it gets it.
 ///
-/// A flush that fails leaves open whether its piece went out. The piece then doesn't count as
-/// written, and each later write fails, so none stands twice.
+/// Where a flush fails, nobody knows whether its piece went out. It doesn't count as written, and each
+/// later write fails, so that no byte goes out twice.
 #[derive(Drop)]
 pub struct StdSink<W: Write> {
     inner: W,
@@ -39,7 +39,7 @@ impl<W: Write> StdSink<W> {
         }
     }
 
-    /// The writer, which also holds the bytes that a failed flush left behind.
+    /// The writer, with the bytes that could not be flushed.
     pub fn into_inner(self) -> W
         ensures { result ≡ self.inner }
     {
@@ -56,6 +56,8 @@ impl<W: Write> Sink for StdSink<W> {
     ghost written = { λ s. without_last s.unflushed (W.contents s.inner) };
 
     ghost write_faults = { λ s. s.faults };
+
+    ghost write_order = { λ _. None };
 
     ghost beside_writes = { λ _. alone };
 

@@ -1,5 +1,5 @@
 //! Any reader of std as a source.
-ghost use Rattle.std.specs.Prelude.{◌≡◌};
+ghost use Rattle.std.specs.Prelude.{◌≡◌, None};
 ghost use Rattle.ground_io.specs.Streams.{alone};
 
 use crate::fault::{Failed, FaultCount};
@@ -7,8 +7,8 @@ use crate::source::Source;
 use std::io::Read;
 use std::marker::Model;
 
-/// A reader of std that counts its faults: each Err, an interrupted call's too. It tells of its bytes
-/// what the reader tells.
+/// A reader of std that counts its faults: each Err, an interrupted call's too. What is known of its
+/// bytes is what is known of the reader's.
 #[derive(Drop)]
 pub struct StdSource<R: Read> {
     inner: R,
@@ -38,6 +38,8 @@ impl<R: Read> Source for StdSource<R> {
     ghost left = { λ s. R.remaining s.inner };
 
     ghost read_faults = { λ s. s.faults };
+
+    ghost read_order = { λ _. None };
 
     ghost beside_reads = { λ _. alone };
 

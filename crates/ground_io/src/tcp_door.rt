@@ -1,17 +1,17 @@
 //! A listening socket as a door.
-ghost use Rattle.std.specs.Prelude.{◌≡◌, ◌↔◌, ◌+◌, ◌<◌, ◌^◌, None, IfOk, IsNone, IsOk};
+ghost use Rattle.std.specs.Prelude.{◌≡◌, ◌↔◌, ◌+◌, ◌<◌, ◌^◌, None, IfOk, OnOk, IsNone, IsOk, IsTrue, false};
 ghost use Rattle.ground_io.specs.Causes.{HasCause};
 ghost use Rattle.ground_io.specs.Wires.{OnWire, OnNoWire};
 
 use crate::door::Door;
 use crate::fault::{Failed, FaultCount};
-use crate::tcp_link::TcpLink;
+use crate::stream_link::TcpLink;
 use std::io;
 use std::marker::Model;
 use std::net::{Net, OpenListener, SocketAddr, TcpListener, TcpStream};
 
-/// A TCP listener for a stated number of sessions. It binds at its first `accept` and listens until
-/// it is dropped. A wire that is handed back is closed.
+/// A TCP listener for a stated number of sessions. It binds at its first `accept`, or where that
+/// failed at a later one, and listens until it is dropped. A wire that is handed back is closed.
 #[derive(Drop)]
 pub struct TcpDoor<R: Net<Stream = TcpStream, Listener = TcpListener> + Drop> {
     net: R,
@@ -23,19 +23,19 @@ pub struct TcpDoor<R: Net<Stream = TcpStream, Listener = TcpListener> + Drop> {
 }
 
 impl<R: Net<Stream = TcpStream, Listener = TcpListener> + Drop> Model for TcpDoor<R> {
-    ghost use Rattle.std.specs.Prelude.{◌+◌, ◌<◌, ◌^◌};
+    ghost use Rattle.std.specs.Prelude.{◌+◌, ◌<◌, ◌^◌, is_some};
     ghost use Rattle.ground_io.specs.Sockets.{ListenerView};
 
     ghost Value = { ListenerView };
 
-    ghost view = { λ d. record { address = d.address; sessions = d.sessions; out = d.out; faults = d.faults } };
+    ghost view = { λ d. record { address = d.address; is_bound = is_some d.listener; sessions = d.sessions; out = d.out; faults = d.faults } };
 
     ghost invariant = { λ d. d.out + d.sessions < 2 ^ 32 };
 }
 
 impl<R: Net<Stream = TcpStream, Listener = TcpListener> + Drop> TcpDoor<R> {
     pub fn new(net: R, address: SocketAddr, sessions: u32) -> Self
-        ensures { result ≡ record { address = address; sessions = sessions; out = 0; faults = 0 } }
+        ensures { result ≡ record { address = address; is_bound = false; sessions = sessions; out = 0; faults = 0 } }
     {
         TcpDoor {
             net,
@@ -49,7 +49,9 @@ impl<R: Net<Stream = TcpStream, Listener = TcpListener> + Drop> TcpDoor<R> {
 
     // The next connection. The listener stays after a fault.
     fn connection(&mut self) -> io::Result<TcpStream>
-        ensures { self.new ≡ self.old }
+        ensures same { self.new ≡ record self.old { is_bound = self.new.is_bound } }
+        ensures bound { OnOk result (IsTrue self.new.is_bound) }
+        ensures stays_bound { IsTrue self.old.is_bound → IsTrue self.new.is_bound }
     {
         let listener = match self.listener.take() {
             Some(listener) => listener,
@@ -89,6 +91,11 @@ impl<R: Net<Stream = TcpStream, Listener = TcpListener> + Drop> Door for TcpDoor
         ensures same_out { OnNoWire result (self.new.out ≡ self.old.out) }
         ensures same_sessions { OnNoWire result (self.new.sessions ≡ self.old.sessions) }
         ensures same_address { self.new.address ≡ self.old.address }
+
+        // A listener stays bound, and at the end none is bound anew.
+        ensures bound { OnWire result (λ _. IsTrue self.new.is_bound) }
+        ensures stays_bound { IsTrue self.old.is_bound → IsTrue self.new.is_bound }
+        ensures binds_none { self.old.sessions ≡ 0 → self.new.is_bound ≡ self.old.is_bound }
     {
         if self.sessions == 0 {
             return Ok(None);

@@ -29,7 +29,7 @@ born_by-le h m (suc n) = up (makes h m n) (born_by h m n) (born_by-le h m n)
     up true k le = omega arith
     up false k le = omega (arith, le)
 
--- an entry that makes the mark is not behind its birth
+-- an entry that makes the mark does not come after its birth
 pub born_by-after : (h : List Entry) (m : Mark) (base n k : ℕ) → base ≤ k → k < n → makes h m k ≡ true → base < born_by h m n
 born_by-after h m base zero k le lt e = absurd (omega (arith, lt))
 born_by-after h m base (suc n) k le lt e = by_test (makes h m n) (born_by h m n) (λ f.

@@ -14,6 +14,12 @@ use Rattle.ground_model.specs.Zone.{zone}
 use Rattle.ground_model.specs.History.{content_of, born, entries_of}
 use Rattle.ground_model.specs.Refusal.{refusal}
 
+-- a planned edit, and the front that it was planned at
+pub record Pending : Type 0 where
+  pub base : ℕ
+  pub edit : Edit
+
+-- what is answered: a conflict, a refusal, or done, each with the number of entries there then are
 pub data Answer : Type 0 where
   Conflict : ℕ → Mark → Answer
   Refused : ℕ → Refusal → Answer
@@ -34,7 +40,7 @@ conflict h base edit = if nat_lt base (length h) then find (has_changed h base) 
 
 -- the number that the content gives to a new line
 abbrev pub given_number : Content → Edit → Option LineId
-given_number c (AddLine kind places) = Some (record { 0 = c.next_line })
+given_number c (AddLine kind places) = Some (record { 0 = c.table.next })
 given_number c edit = None
 
 -- done, where there is no refusal

@@ -19,7 +19,7 @@ cut_on z low high = record {
   n = low.at.n +ℤ rounded_half_up ((high.at.n -ℤ low.at.n) *ℤ (z -ℤ low.level)) (high.level -ℤ low.level);
 }
 
--- A facet whose corner x is alone low, or alone high, with y and z the next ones counterclockwise.
+-- a facet whose corner x is alone low, or alone high, with y and z the next ones counterclockwise
 pub record Span : Type 0 where
   pub facet : Facet
   pub is_low : Bool
@@ -33,7 +33,7 @@ cut_on_span z s = if s.is_low
     then record { from = cut_on z s.x s.z; to = cut_on z s.x s.y }
     else record { from = cut_on z s.y s.x; to = cut_on z s.z s.x }
 
--- by which corners are low
+-- the span of the facet, by which corners are low
 abbrev pub span_by : Facet → Post → Post → Post → Bool → Bool → Bool → Option Span
 span_by f a b c true true true = None
 span_by f a b c false false false = None

@@ -36,7 +36,7 @@ abbrev pub is_made : Content → Content → Mark → Bool
 is_made before now (Tri f) = is_facet_of now f && not (is_facet_of before f)
 is_made before now (Point p) = is_new_level (level_of before p) (level_of now p)
 
--- whether the entry behind the first k makes the mark
+-- whether the entry after the first k makes the mark
 abbrev pub makes : List Entry → Mark → ℕ → Bool
 makes h m k = is_made (content_of (take k h)) (content_of (take (suc k) h)) m
 

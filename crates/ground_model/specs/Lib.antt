@@ -2,8 +2,12 @@ pub mod Place
 pub mod Side
 pub mod Lifted
 pub mod Height
+pub mod Kind
 pub mod Line
+pub mod Table
+pub mod Crossings
 pub mod Content
+pub mod Codes
 pub mod Wall
 pub mod Tri
 pub mod Loops
@@ -11,6 +15,7 @@ pub mod Refusal
 pub mod Mark
 pub mod Zone
 pub mod History
+pub mod Planar
 pub mod Answer
 pub mod Kept
 pub mod Rounding

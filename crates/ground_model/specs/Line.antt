@@ -1,11 +1,12 @@
 -- Lines: their links and pieces.
-use Rattle.std.specs.Prelude.{Bool, true, false, not, ◌&&◌, List, [], ◌++◌, map, take, drop, if◌then◌else◌}
+use Rattle.std.specs.Prelude.{Bool, not, ◌&&◌, List, ◌++◌, map, take, drop, [], if◌then◌else◌}
 use Rattle.std.specs.List.{list_any, filter, flat_map, zip}
 use Rattle.ground_model.specs.declared.line.LineKind.{LineKind}
-use Rattle.ground_model.specs.declared.line.LineKind.TheVariants.{Breakline, Outer, Void, Island}
+use Rattle.ground_model.specs.Kind.{is_ring}
 use Rattle.ground_model.specs.Place.{Coords, is_before, is_same}
 use Rattle.ground_model.specs.Side.{is_on_segment}
 
+-- a kind and the places in order
 pub record Line : Type 0 where
   pub kind : LineKind
   pub places : List Coords
@@ -14,20 +15,19 @@ pub record Line : Type 0 where
 abbrev pub Segment : Type 0
 Segment = Coords × Coords
 
-abbrev pub is_ring : LineKind → Bool
-is_ring Breakline = false
-is_ring Outer = true
-is_ring Void = true
-is_ring Island = true
-
 -- the links from each place to the next; a ring goes back to its first place
 abbrev pub links : Line → List Segment
 links line = zip line.places (drop 1 line.places ++ (if is_ring line.kind then take 1 line.places else []))
 
--- no point lies strictly between p and q, where p is before q
+-- whether the line has the place
+abbrev pub has_place : Coords → Line → Bool
+has_place p line = list_any (is_same p) line.places
+
+-- whether no point lies strictly between p and q, where p is before q
 abbrev pub is_clear : List Coords → Coords → Coords → Bool
 is_clear points p q = not (list_any (λ r. is_on_segment p q r && is_before p r && is_before r q) points)
 
+-- whether the place is one of the points
 abbrev pub is_point : List Coords → Coords → Bool
 is_point points p = list_any (is_same p) points
 

@@ -22,6 +22,7 @@ is_crossed_by_none ps a b = list_all (λ piece. not (crosses a b piece.p piece.q
 unfoldable pub is_walled_from : List Piece → Coords → Coords → Coords → Bool
 is_walled_from ps a b p = list_any (λ piece. is_walled a b p piece.p piece.q) ps
 
+-- each point is walled from ab, unless it does not lie beyond ab
 abbrev pub is_walled_if_beyond : List Piece → Coords → Coords → Coords → Bool
 is_walled_if_beyond ps a b p = not (is_right a b p) || is_walled_from ps a b p
 
@@ -40,6 +41,7 @@ is_facet points ps a b c = (is_before a b && is_before a c && is_left a b c)
 abbrev pub joins : Coords → Coords → Piece → Bool
 joins p q piece = is_same piece.p p && is_same piece.q q || is_same piece.p q && is_same piece.q p
 
+-- the count of a piece, 0 where there is none
 abbrev pub count_in : Option Piece → ℕ
 count_in None = 0
 count_in (Some piece) = piece.count
@@ -48,6 +50,7 @@ count_in (Some piece) = piece.count
 abbrev pub count_at : List Piece → Coords → Coords → ℕ
 count_at ps p q = count_in (find (joins p q) ps)
 
+-- three places, the corners of what may be a facet
 abbrev pub Triple : Type 0
 Triple = Coords × (Coords × Coords)
 
@@ -55,6 +58,7 @@ Triple = Coords × (Coords × Coords)
 abbrev pub triples : List Coords → List Triple
 triples points = flat_map (λ a. flat_map (λ b. map (λ c. (a, (b, c))) points) points) points
 
+-- whether the three are the corners of a facet, the least first
 abbrev pub is_facet_at : List Coords → List Piece → Triple → Bool
 is_facet_at points ps t = is_facet points ps t.0 t.1.0 t.1.1
 
@@ -74,9 +78,10 @@ has_counts ps f = nat_eq f.ab (count_at ps f.a f.b) && nat_eq f.bc (count_at ps 
 abbrev pub is_facet_over : List Coords → List Piece → Facet → Bool
 is_facet_over points ps f = is_point points f.a && is_point points f.b && is_point points f.c && is_facet points ps f.a f.b f.c && has_counts ps f
 
--- whether it is a facet of the content: that `tri` has it is the same
+-- whether the facets of the content have it
 unfoldable pub is_facet_of : Content → Facet → Bool
 is_facet_of c f = is_facet_over (points_of c) (pieces c) f
 
+-- the facets of the content, in order
 abbrev pub tri : Content → List Facet
 tri c = facets (points_of c) (pieces c)

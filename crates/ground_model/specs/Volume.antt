@@ -12,13 +12,15 @@ use Rattle.ground_model.specs.Contour.{Post}
 abbrev pub cap : ℤ → ℤ → ℤ → ℤ → ℤ
 cap area h1 h2 h3 = h1 *ℤ ceil_div (ceil_div (area *ℤ h1) (h1 -ℤ h2) *ℤ h1) (h1 -ℤ h3)
 
--- the same, by the corner at h1 and the other two
+-- the part above, where the corner at h1 is above, by it and the other two
 abbrev pub cap_over : ℤ → ℤ → Post → Post → ℤ
 cap_over area h1 y z = if is_before y.at z.at then cap area h1 y.level z.level else cap area h1 z.level y.level
 
+-- whether the corner is above the datum
 abbrev pub is_above : Post → Bool
 is_above x = int_lt (pos 0) x.level
 
+-- whether the corner is below the datum
 abbrev pub is_below : Post → Bool
 is_below x = int_lt x.level (pos 0)
 
@@ -29,10 +31,11 @@ part_above area x y z =
     else if is_above y then cap_over area y.level z x
     else cap_over area z.level x y
 
+-- the corner as far on the other side of the datum
 abbrev pub turned_over : Post → Post
 turned_over x = record { at = x.at; level = neg_ℤ x.level }
 
--- The four cases of a facet whose corners are given with their heights over the datum: none below, none above, one above, and two above with one below.
+-- the volume of a facet by the heights of its corners over the datum: none below, none above, one above, and two above with one below
 unfoldable pub facet_volume : ℤ → Post → Post → Post → Volume
 facet_volume area x y z =
     let net = area *ℤ (x.level +ℤ y.level +ℤ z.level) in
@@ -43,15 +46,19 @@ facet_volume area x y z =
     then (let cut = part_above area x y z in record { cut = cut; fill = cut -ℤ net; net = net })
     else (let fill = part_above area (turned_over x) (turned_over y) (turned_over z) in record { cut = fill +ℤ net; fill = fill; net = net })
 
+-- the place with its height over the datum
 abbrev pub over : ℤ → Coords → ℤ → Post
 over datum p z = record { at = p; level = z -ℤ datum }
 
+-- the volume of one facet
 abbrev pub volume_on : ℤ → Slope → Volume
 volume_on datum s = facet_volume (side s.facet.a s.facet.b s.facet.c) (over datum s.facet.a s.za) (over datum s.facet.b s.zb) (over datum s.facet.c s.zc)
 
+-- the sum of two volumes
 abbrev pub plus : Volume → Volume → Volume
 plus v w = record { cut = v.cut +ℤ w.cut; fill = v.fill +ℤ w.fill; net = v.net +ℤ w.net }
 
+-- the volume of no facet
 abbrev pub no_volume : Volume
 no_volume = record { cut = pos 0; fill = pos 0; net = pos 0 }
 

@@ -42,13 +42,14 @@ impl<T> Listed<T> {
         self.items.len()
     }
 
+    /// Whether there is no value.
     pub fn is_empty(&self) -> bool
         ensures { IsTrue result ↔ (length self.now ≡ 0) }
     {
         self.items.is_empty()
     }
 
-    /// The value at place `k`, counted from 0. None from the length on.
+    /// The value at index `k`, counted from 0. None from the length on.
     pub fn get(&self, k: usize) -> Option<&T>
         ensures { option_copied result ≡ slice_get self.now k }
     {

@@ -1,6 +1,6 @@
 //! Reliefs.
 
-ghost use Rattle.std.specs.Prelude.{◌≡◌, ℤ, List, Option, length, slice_get, unwrap_or, filter_map, All, IfSome, IsTrue};
+ghost use Rattle.std.specs.Prelude.{◌≡◌, ◌<◌, ◌≤◌, ◌^◌, ℤ, List, Option, length, slice_get, unwrap_or, filter_map, All, IfSome, IsTrue};
 ghost use Rattle.std.specs.List.Sorted.{IsPermutation, IsStrictlySortedBy};
 ghost use Rattle.std.specs.Ordering.{on, then_cmp};
 ghost use Rattle.ground_model.specs.Place.{Coords, place_cmp};
@@ -23,9 +23,14 @@ pub trait Relief {
     /// The one level of each place that is a corner.
     ghost corner_level: { Self → Coords → ℤ };
 
-    /// How many slots there are. From here on no slot has a kept facet.
+    /// How many slots there are. From here on no slot has a kept facet. Twice the area of a facet
+    /// is at most 2^61 and a height over a datum at most 2^27, so what lies above or below the
+    /// datum in one facet is at most 3 * 2^88 sixths of a cubic thousandth, and in all of them
+    /// less than 2^120.
     fn slots(&self) -> u32
         ensures slots { result ≡ length (table self.now) }
+        ensures few_slots { length (table self.now) ≤ 2 ^ 30 }
+        ensures few { length (slopes self.now) < 2 ^ 30 }
         ensures each_once { IsPermutation (filter_map (λ slope. slope) (table self.now)) (slopes self.now) }
         ensures in_order { IsStrictlySortedBy (then_cmp (on (λ s. s.facet.a) place_cmp) (then_cmp (on (λ s. s.facet.b) place_cmp) (on (λ s. s.facet.c) place_cmp))) (slopes self.now) }
         ensures turned { All (λ s. IsTrue (is_left s.facet.a s.facet.b s.facet.c)) (slopes self.now) }

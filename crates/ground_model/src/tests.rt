@@ -3,26 +3,22 @@
 use crate::{Level, Limits, LineKind, Listed, Place, Places};
 use std::test::Fail;
 
+fn is_place(e: i32, n: i32) -> bool {
+    Place::new(e, n).is_some()
+}
+
+fn is_level(z: i32) -> bool {
+    Level::new(z).is_some()
+}
+
 #[test]
-fn places_and_levels_end_at_their_limits(rt: HostRuntime) -> Result<(), Fail> {
-    for (e, n, is_place) in [
-        (0, 0, true),
-        (536_870_912, -536_870_912, true),
-        (-536_870_912, 536_870_912, true),
-        (536_870_913, 0, false),
-        (0, -536_870_913, false),
-    ] {
-        assert_eq!(rt; Place::new(e, n).is_some(), is_place, "of {e} {n}");
-    }
-    for (z, is_level) in [
-        (67_108_864, true),
-        (-67_108_864, true),
-        (67_108_865, false),
-        (-67_108_865, false),
-    ] {
-        assert_eq!(rt; Level::new(z).is_some(), is_level, "of {z}");
-    }
-    Ok(())
+fn places_and_levels_end_at_their_limits(rt: HostRuntime) {
+    assert!(rt; is_place(536_870_912, -536_870_912));
+    assert!(rt; is_place(-536_870_912, 536_870_912));
+    assert!(rt; !is_place(536_870_913, 0));
+    assert!(rt; !is_place(0, -536_870_913));
+    assert!(rt; is_level(67_108_864) && is_level(-67_108_864));
+    assert!(rt; !is_level(67_108_865) && !is_level(-67_108_865));
 }
 
 #[test]
@@ -47,10 +43,18 @@ fn a_list_is_made_and_read(rt: HostRuntime) -> Result<(), Fail> {
     assert_eq!(rt; places.get(1).copied(), Some(last));
     assert!(rt; places.get(2).is_none());
     assert_eq!(rt; places.as_slice(), [first, last].as_slice());
-    let kinds = Listed::from_vec(places.into_vec());
-    assert_eq!(rt; kinds.len(), 2);
-    assert_ne!(rt; LineKind::Void, LineKind::Island);
+    assert_eq!(rt; Listed::from_vec(places.into_vec()).len(), 2);
     Ok(())
+}
+
+#[test]
+fn a_ring_has_at_least_three_places(rt: HostRuntime) {
+    let (breakline, outer) = (LineKind::Breakline, LineKind::Outer);
+    assert_eq!(rt; (breakline.is_ring(), breakline.least_places()), (false, 2));
+    assert_eq!(rt; (outer.is_ring(), outer.least_places()), (true, 3));
+    assert!(rt; outer.is_outer() && !outer.is_void_or_island());
+    assert!(rt; LineKind::Void.is_void_or_island() && !LineKind::Void.is_island());
+    assert!(rt; LineKind::Island.is_void_or_island() && LineKind::Island.is_island());
 }
 
 #[test]

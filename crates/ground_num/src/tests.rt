@@ -1,8 +1,7 @@
 //! Each public call once on its happy path, and the limits.
 
-use crate::{
-    LinearUnit, Name, NameFault, Origin, PLACE_LIMIT, Thousandths, put_decimal, put_volume, shift,
-};
+use crate::{Name, NameFault, PLACE_LIMIT, Thousandths, put_decimal, put_volume, shift};
+use std::alloc::Global;
 use std::test::Fail;
 
 #[test]
@@ -57,37 +56,30 @@ fn a_coordinate_is_shifted_within_the_limit(rt: HostRuntime) {
     }
 }
 
+fn answer_to(alloc: Global, text: &[u8]) -> &'static str {
+    match Name::from_bytes(alloc, text) {
+        Ok(_) => "a name",
+        Err(NameFault::Long) => "long",
+        Err(NameFault::NotUtf8) => "not UTF-8",
+        Err(NameFault::Control) => "control",
+        Err(NameFault::Memory(_)) => "out of memory",
+    }
+}
+
 #[test]
 fn a_name_is_text_without_control_bytes(rt: HostRuntime) -> Result<(), Fail> {
-    let name = Name::from_bytes(rt.alloc(), b"EG 1")?;
-    assert_eq!(rt;
-        (name.len(), name.is_empty(), name.get(1).copied()),
-        (4, false, Some(b'G'))
-    );
+    for (text, answer) in [
+        ([b'a'; 255].as_slice(), "a name"),
+        ([b'a'; 256].as_slice(), "long"),
+        (b"\xff".as_slice(), "not UTF-8"),
+        (b"a\x00".as_slice(), "control"),
+    ] {
+        let len = text.len();
+        assert_eq!(rt; answer_to(rt.alloc(), text), answer, "{len} bytes");
+    }
+    let name = Name::from_bytes(rt.alloc(), b"EG\t1")?;
+    let read = (name.len(), name.is_empty(), name.get(1).copied());
+    assert_eq!(rt; read, (4, false, Some(b'G')));
     assert!(rt; name.get(4).is_none());
-    assert!(rt; Name::from_bytes(rt.alloc(), &[b'a'; 255]).is_ok());
-    assert!(rt;
-        matches!(
-            Name::from_bytes(rt.alloc(), &[b'a'; 256]),
-            Err(NameFault::Long)
-        )
-    );
-    assert!(rt;
-        matches!(
-            Name::from_bytes(rt.alloc(), b"\xff"),
-            Err(NameFault::NotUtf8)
-        )
-    );
-    assert!(rt;
-        matches!(
-            Name::from_bytes(rt.alloc(), b"a\x00"),
-            Err(NameFault::Control)
-        )
-    );
-    let origin = Origin {
-        n: Thousandths(0),
-        e: Thousandths(1),
-    };
-    assert!(rt; origin.n < origin.e && LinearUnit::Foot != LinearUnit::Meter);
     Ok(())
 }

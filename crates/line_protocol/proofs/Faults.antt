@@ -6,11 +6,11 @@ use Rattle.std.proofs.lemmas.List.{take-take, take-append-drop}
 use Rattle.std.proofs.lemmas.List.Sums.{common_prefix_len-le}
 use Rattle.std.proofs.lemmas.Bool.{eqb-true, eqb-false}
 use Rattle.ground_num.specs.FirstFault.{Begins, IsFirstFault}
-use Rattle.line_protocol.specs.Fault.{Behind, IsEmpty}
+use Rattle.line_protocol.specs.Fault.{After, IsEmpty}
 
--- the same language, told otherwise
-pub told_otherwise : {A B : List ℕ → Type 0} (text : List ℕ) (k : ℕ) → ((t : List ℕ) → A t → B t) → ((t : List ℕ) → B t → A t) → IsFirstFault A text k → IsFirstFault B text k
-told_otherwise text k to from fault = record {
+-- one language, said in two ways
+pub by_other_words : {A B : List ℕ → Type 0} (text : List ℕ) (k : ℕ) → ((t : List ℕ) → A t → B t) → ((t : List ℕ) → B t → A t) → IsFirstFault A text k → IsFirstFault B text k
+by_other_words text k to from fault = record {
   within = fault.within;
   allowed = λ j below. let a = fault.allowed j below in (a.0, to _ a.1);
   not_allowed = λ below b. fault.not_allowed below (b.0, from _ b.1);
@@ -92,53 +92,53 @@ add_one_out m n = omega arith
 one_more : (k : ℕ) → 1 + k ≡ suc k
 one_more k = omega arith
 
--- ---- a phrase, and what stands behind it
+-- ---- a phrase, and what stands after it
 module _ {L : List ℕ → Type 0} (some : Begins L []) where
-  behind_some : (phrase : List ℕ) → Begins (Behind phrase L) []
-  behind_some phrase = (phrase ++ some.0, (some.0, refl, some.1))
+  after_some : (phrase : List ℕ) → Begins (After phrase L) []
+  after_some phrase = (phrase ++ some.0, (some.0, refl, some.1))
 
-  heads_off : (b c : ℕ) (t phrase : List ℕ) → Behind (c ∷ phrase) L (b ∷ t) → (b ≡ c) × Behind phrase L t
+  heads_off : (b c : ℕ) (t phrase : List ℕ) → After (c ∷ phrase) L (b ∷ t) → (b ≡ c) × After phrase L t
   heads_off b c t phrase h = let e : b ∷ t ≡ c ∷ (phrase ++ h.0) = h.1 in (cc, (h.0, cc, h.2))
 
-  head_on : (b c : ℕ) (t phrase : List ℕ) → b ≡ c → Behind phrase L t → Behind (c ∷ phrase) L (b ∷ t)
+  head_on : (b c : ℕ) (t phrase : List ℕ) → b ≡ c → After phrase L t → After (c ∷ phrase) L (b ∷ t)
   head_on b c t phrase same h = (h.0, (λ i. same i ∷ h.1 i), h.2)
 
-  next_behind : (b c : ℕ) (text phrase : List ℕ) (k : ℕ) → b ≡ c → IsFirstFault (Behind phrase L) text k → IsFirstFault (Behind (c ∷ phrase) L) (b ∷ text) (suc k)
-  next_behind b c text phrase k same fault = of_next b text k (λ t h. (heads_off b c t phrase h).1) (λ t h. head_on b c t phrase same h) (behind_some phrase) fault
+  next_after : (b c : ℕ) (text phrase : List ℕ) (k : ℕ) → b ≡ c → IsFirstFault (After phrase L) text k → IsFirstFault (After (c ∷ phrase) L) (b ∷ text) (suc k)
+  next_after b c text phrase k same fault = of_next b text k (λ t h. (heads_off b c t phrase h).1) (λ t h. head_on b c t phrase same h) (after_some phrase) fault
 
   -- the text leaves the phrase
-  pub leaves_phrase : (phrase text : List ℕ) → common_prefix_len nat_eq phrase text < length phrase → IsFirstFault (Behind phrase L) text (common_prefix_len nat_eq phrase text)
+  pub leaves_phrase : (phrase text : List ℕ) → common_prefix_len nat_eq phrase text < length phrase → IsFirstFault (After phrase L) text (common_prefix_len nat_eq phrase text)
   leaves_phrase [] text below = absurd (omega arith)
   leaves_phrase (c ∷ phrase) [] below = of_end
   leaves_phrase (c ∷ phrase) (b ∷ text) below = at_head (nat_eq c b) refl below (leaves_phrase phrase text)
     where
       at_head : (same : Bool) → nat_eq c b ≡ same → cond same (1 + common_prefix_len nat_eq phrase text) 0 < suc (length phrase)
-          → (common_prefix_len nat_eq phrase text < length phrase → IsFirstFault (Behind phrase L) text (common_prefix_len nat_eq phrase text))
-          → IsFirstFault (Behind (c ∷ phrase) L) (b ∷ text) (cond same (1 + common_prefix_len nat_eq phrase text) 0)
-      at_head true e less again = rw (one_more (common_prefix_len nat_eq phrase text)) (next_behind b c text phrase _ (sym (eqb-true c b e)) (again (omega arith)))
+          → (common_prefix_len nat_eq phrase text < length phrase → IsFirstFault (After phrase L) text (common_prefix_len nat_eq phrase text))
+          → IsFirstFault (After (c ∷ phrase) L) (b ∷ text) (cond same (1 + common_prefix_len nat_eq phrase text) 0)
+      at_head true e less again = rw (one_more (common_prefix_len nat_eq phrase text)) (next_after b c text phrase _ (sym (eqb-true c b e)) (again (omega arith)))
       at_head false e less again = of_stray b text (λ t h. eqb-false c b e (sym (heads_off b c t phrase h).0))
 
   -- the text has the phrase
-  pub has_phrase : (phrase text : List ℕ) (k : ℕ) → length phrase ≤ common_prefix_len nat_eq phrase text → IsFirstFault L (drop (length phrase) text) k → IsFirstFault (Behind phrase L) text (length phrase + k)
-  has_phrase [] text k long fault = rw (zero-add k) (told_otherwise text k (λ t h. (t, refl, h)) (λ t h. subst L (sym h.1) h.2) fault)
+  pub has_phrase : (phrase text : List ℕ) (k : ℕ) → length phrase ≤ common_prefix_len nat_eq phrase text → IsFirstFault L (drop (length phrase) text) k → IsFirstFault (After phrase L) text (length phrase + k)
+  has_phrase [] text k long fault = rw (zero-add k) (by_other_words text k (λ t h. (t, refl, h)) (λ t h. subst L (sym h.1) h.2) fault)
   has_phrase (c ∷ phrase) [] k long fault = absurd (omega arith)
   has_phrase (c ∷ phrase) (b ∷ text) k long fault = at_head (nat_eq c b) refl long (λ less. has_phrase phrase text k less fault)
     where
       at_head : (same : Bool) → nat_eq c b ≡ same → suc (length phrase) ≤ cond same (1 + common_prefix_len nat_eq phrase text) 0
-          → (length phrase ≤ common_prefix_len nat_eq phrase text → IsFirstFault (Behind phrase L) text (length phrase + k))
-          → IsFirstFault (Behind (c ∷ phrase) L) (b ∷ text) (suc (length phrase) + k)
-      at_head true e less again = rw (add_one_out (length phrase) k) (next_behind b c text phrase _ (sym (eqb-true c b e)) (again (omega arith)))
+          → (length phrase ≤ common_prefix_len nat_eq phrase text → IsFirstFault (After phrase L) text (length phrase + k))
+          → IsFirstFault (After (c ∷ phrase) L) (b ∷ text) (suc (length phrase) + k)
+      at_head true e less again = rw (add_one_out (length phrase) k) (next_after b c text phrase _ (sym (eqb-true c b e)) (again (omega arith)))
       at_head false e less again = absurd (omega arith)
 
-  -- the same, over what a function found
-  pub left_phrase : (phrase text : List ℕ) (k : ℕ) → k ≡ common_prefix_len nat_eq phrase text → k < length phrase → IsFirstFault (Behind phrase L) text k
-  left_phrase phrase text k e short = let P : ℕ → Type 0 = λ n. n < length phrase in subst (IsFirstFault (Behind phrase L) text) (sym e) (leaves_phrase phrase text (subst P e short))
+  -- the two, over what a function found
+  pub left_phrase : (phrase text : List ℕ) (k : ℕ) → k ≡ common_prefix_len nat_eq phrase text → k < length phrase → IsFirstFault (After phrase L) text k
+  left_phrase phrase text k e short = let P : ℕ → Type 0 = λ n. n < length phrase in subst (IsFirstFault (After phrase L) text) (sym e) (leaves_phrase phrase text (subst P e short))
 
-  pub kept_phrase : (phrase text rest : List ℕ) (n k : ℕ) → n ≡ common_prefix_len nat_eq phrase text → length phrase ≤ n → rest ≡ drop n text → IsFirstFault L rest k → IsFirstFault (Behind phrase L) text (n + k)
+  pub kept_phrase : (phrase text rest : List ℕ) (n k : ℕ) → n ≡ common_prefix_len nat_eq phrase text → length phrase ≤ n → rest ≡ drop n text → IsFirstFault L rest k → IsFirstFault (After phrase L) text (n + k)
   kept_phrase phrase text rest n k e long same fault =
       let all : length phrase ≡ n = omega (arith, e, long, (common_prefix_len-le nat_eq phrase text).0) in
       let left : rest ≡ drop (length phrase) text = same ∙ ap (λ m. drop m text) (sym all) in
-      let P : ℕ → Type 0 = λ m. IsFirstFault (Behind phrase L) text (m + k) in
+      let P : ℕ → Type 0 = λ m. IsFirstFault (After phrase L) text (m + k) in
       let Q : List ℕ → Type 0 = λ t. IsFirstFault L t k in
       subst P all (has_phrase phrase text k (omega (arith, e, long)) (subst Q left fault))
 
@@ -150,13 +150,13 @@ le_or_gt : (m n : ℕ) → (m ≤ n) ⊎ (n < m)
 le_or_gt m n = grind arith
 
 -- a phrase alone
-pub phrase_alone : (phrase text : List ℕ) → IsFirstFault (Behind phrase IsEmpty) text (common_prefix_len nat_eq phrase text)
+pub phrase_alone : (phrase text : List ℕ) → IsFirstFault (After phrase IsEmpty) text (common_prefix_len nat_eq phrase text)
 phrase_alone phrase text = by (le_or_gt (length phrase) (common_prefix_len nat_eq phrase text))
   where
-    by : (length phrase ≤ common_prefix_len nat_eq phrase text) ⊎ (common_prefix_len nat_eq phrase text < length phrase) → IsFirstFault (Behind phrase IsEmpty) text (common_prefix_len nat_eq phrase text)
+    by : (length phrase ≤ common_prefix_len nat_eq phrase text) ⊎ (common_prefix_len nat_eq phrase text < length phrase) → IsFirstFault (After phrase IsEmpty) text (common_prefix_len nat_eq phrase text)
     by (inl long) =
         let e : length phrase + 0 ≡ common_prefix_len nat_eq phrase text = omega (arith, (common_prefix_len-le nat_eq phrase text).0, long) in
-        subst (IsFirstFault (Behind phrase IsEmpty) text) e (has_phrase ([], refl) phrase text 0 long (of_empty (drop (length phrase) text)))
+        subst (IsFirstFault (After phrase IsEmpty) text) e (has_phrase ([], refl) phrase text 0 long (of_empty (drop (length phrase) text)))
     by (inr short) = leaves_phrase ([], refl) phrase text short
 
 pub none_in_common : (phrase : List ℕ) → common_prefix_len nat_eq phrase [] ≡ 0

@@ -11,11 +11,11 @@ use Rattle.line_protocol.specs.Scanning.{ends_number, end_numbers}
 use Rattle.line_protocol.proofs.Scans.{and_false, scan_of}
 use Rattle.line_protocol.proofs.Numerals.{and_true, number_scanned, id_scanned, is_some_map}
 
-nothing_after : (a b : Bool) → (a && (b && false)) ≡ false
-nothing_after a b = ap (λ t. a && t) (and_false b) ∙ and_false a
+nothing_after_two : (a b : Bool) → (a && (b && false)) ≡ false
+nothing_after_two a b = ap (λ t. a && t) (and_false b) ∙ and_false a
 
-nothing_behind : (a b c : Bool) → (a && (b && (c && false))) ≡ false
-nothing_behind a b c = ap (λ t. a && t) (nothing_after b c) ∙ and_false a
+nothing_after_three : (a b c : Bool) → (a && (b && (c && false))) ≡ false
+nothing_after_three a b c = ap (λ t. a && t) (nothing_after_two b c) ∙ and_false a
 
 -- a pair, and what comes after
 pair_and : (f : ℤ × ℤ → Coords) (a b rest : Bool) (n e : Option ℤ) → a ≡ is_some n → b ≡ is_some e → (a && (b && rest)) ≡ (is_some (option_map f (both n e)) && rest)
@@ -34,29 +34,29 @@ is_some_both (Some x) (Some y) = refl
 pub level_scanned : (ws : List Word) → end_numbers (Some (scan_of Start Nothing)) ws ≡ is_some (level ws)
 level_scanned [] = refl
 level_scanned (z ∷ []) = and_true (ends_number (Some Start) z) ∙ number_scanned z
-level_scanned (z ∷ w ∷ ws) = nothing_after (ends_number (Some Start) z) (ends_number (Some Start) w)
+level_scanned (z ∷ w ∷ ws) = nothing_after_two (ends_number (Some Start) z) (ends_number (Some Start) w)
 
 pub id_word_scanned : (ws : List Word) → end_numbers (Some (scan_of IdStart Nothing)) ws ≡ is_some (id ws)
 id_word_scanned [] = refl
 id_word_scanned (w ∷ []) = and_true (ends_number (Some IdStart) w) ∙ id_scanned w
-id_word_scanned (w ∷ v ∷ ws) = nothing_after (ends_number (Some IdStart) w) (ends_number (Some Start) v)
+id_word_scanned (w ∷ v ∷ ws) = nothing_after_two (ends_number (Some IdStart) w) (ends_number (Some Start) v)
 
 pub place_scanned : (ws : List Word) → end_numbers (Some (scan_of Start OneNumber)) ws ≡ is_some (place ws)
 place_scanned [] = refl
 place_scanned (n ∷ []) = and_false (ends_number (Some Start) n)
 place_scanned (n ∷ e ∷ []) = pair_and _ _ _ true (number_of n) (number_of e) (number_scanned n) (number_scanned e) ∙ and_true (is_some (place_of n e))
-place_scanned (n ∷ e ∷ w ∷ ws) = nothing_behind (ends_number (Some Start) n) (ends_number (Some Start) e) (ends_number (Some Start) w)
+place_scanned (n ∷ e ∷ w ∷ ws) = nothing_after_three (ends_number (Some Start) n) (ends_number (Some Start) e) (ends_number (Some Start) w)
 
 pub spot_scanned : (ws : List Word) → end_numbers (Some (scan_of Start TwoNumbers)) ws ≡ is_some (spot ws)
 spot_scanned [] = refl
 spot_scanned (n ∷ []) = and_false (ends_number (Some Start) n)
-spot_scanned (n ∷ e ∷ []) = nothing_after (ends_number (Some Start) n) (ends_number (Some Start) e)
+spot_scanned (n ∷ e ∷ []) = nothing_after_two (ends_number (Some Start) n) (ends_number (Some Start) e)
 spot_scanned (n ∷ e ∷ z ∷ []) =
     pair_and _ _ _ (ends_number (Some Start) z && true) (number_of n) (number_of e) (number_scanned n) (number_scanned e)
     ∙ ap (λ t. is_some (place_of n e) && t) (and_true (ends_number (Some Start) z) ∙ number_scanned z)
     ∙ sym (is_some_both (place_of n e) (number_of z))
 spot_scanned (n ∷ e ∷ z ∷ w ∷ ws) =
-    ap (λ t. ends_number (Some Start) n && t) (nothing_behind (ends_number (Some Start) e) (ends_number (Some Start) z) (ends_number (Some Start) w))
+    ap (λ t. ends_number (Some Start) n && t) (nothing_after_three (ends_number (Some Start) e) (ends_number (Some Start) z) (ends_number (Some Start) w))
     ∙ and_false (ends_number (Some Start) n)
 
 pub places_scanned : (ws : List Word) → end_numbers (Some (scan_of Start Easting)) ws ≡ is_some (places ws)

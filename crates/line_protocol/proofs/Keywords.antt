@@ -4,18 +4,20 @@ use Rattle.std.specs.Prelude.{◌==◌, ◌&&◌, ◌||◌, not, is_some, codes,
 use Rattle.std.specs.List.{list_all, list_any, onto_first}
 use Rattle.std.proofs.lemmas.Slice.Eq.{bytes_eq-Decides}
 use Rattle.std.proofs.lemmas.List.{append-nil}
+use Rattle.std.proofs.lemmas.List.Elements.{All-from_recursion}
 use Rattle.std.proofs.lemmas.Bool.{eq-eqb}
 use Rattle.ground_num.specs.FirstFault.{IsFirstFault}
-use Rattle.line_protocol.specs.Grammar.{Word, is_space, words_of, request, spoken}
+use Rattle.line_protocol.specs.Grammar.{Word, is_space, words_of, request, request_rows, edit, edit_rows, spoken}
 use Rattle.line_protocol.specs.Fault.{IsRequest}
+use Rattle.line_protocol.specs.Laws.{ReadsEachRow}
 use Rattle.line_protocol.proofs.Splitting.{words_some}
 
--- ---- one fault place
+-- ---- one fault offset
 not_below : {A : List ℕ → Type 0} (text : List ℕ) (j k : ℕ) → IsFirstFault A text j → IsFirstFault A text k → j < k → ⊥
 not_below text j k first second below = first.not_allowed (omega (arith, second.within)) (second.allowed j below)
 
-pub one_place : {A : List ℕ → Type 0} (text : List ℕ) (j k : ℕ) → IsFirstFault A text j → IsFirstFault A text k → j ≡ k
-one_place text j k first second = by (order j k)
+pub one_offset : {A : List ℕ → Type 0} (text : List ℕ) (j k : ℕ) → IsFirstFault A text j → IsFirstFault A text k → j ≡ k
+one_offset text j k first second = by (order j k)
   where
     order : (m n : ℕ) → (m < n) ⊎ ((n < m) ⊎ (m ≡ n))
     order m n = grind arith
@@ -24,6 +26,17 @@ one_place text j k first second = by (order j k)
     by (inl h) = absurd (not_below text j k first second h)
     by (inr (inl h)) = absurd (not_below text k j second first h)
     by (inr (inr h)) = h
+
+-- ---- rows
+-- each row of the table of requests reads what stands after its word
+pub each_request : ReadsEachRow request request_rows
+unfolding request
+each_request = All-from_recursion (λ row. (ws : List Word) → request (row.0 ∷ ws) ≡ row.1 ws) request_rows ((λ ws. refl), ((λ ws. refl), ((λ ws. refl), ((λ ws. refl), ((λ ws. refl), ((λ ws. refl), ((λ ws. refl), ((λ ws. refl), ((λ ws. refl), ((λ ws. refl), tt))))))))))
+
+-- and each row of the table of edits
+pub each_edit : ReadsEachRow edit edit_rows
+unfolding edit
+each_edit = All-from_recursion (λ row. (ws : List Word) → edit (row.0 ∷ ws) ≡ row.1 ws) edit_rows ((λ ws. refl), ((λ ws. refl), ((λ ws. refl), ((λ ws. refl), ((λ ws. refl), tt)))))
 
 -- ---- first words
 keywords : List Word
@@ -40,7 +53,7 @@ is_keyword : (w : Word) (ws : List Word) → is_some (request (w ∷ ws)) ≡ tr
 unfolding request is_among keywords
 is_keyword w ws h = one_row (bytes_eq w (codes "sync")) _ _ _ (one_row (bytes_eq w (codes "plan")) _ _ _ (one_row (bytes_eq w (codes "commit")) _ _ _ (one_row (bytes_eq w (codes "do")) _ _ _ (one_row (bytes_eq w (codes "level")) _ _ _ (one_row (bytes_eq w (codes "contour")) _ _ _ (one_row (bytes_eq w (codes "volume")) _ _ _ (one_row (bytes_eq w (codes "stat")) _ _ _ (one_row (bytes_eq w (codes "export")) _ _ _ (one_row (bytes_eq w (codes "quit")) _ _ _ (λ none. none)))))))))) h
 
--- whether the second goes on behind the first
+-- whether the second goes on after the first
 goes_on : Word → Word → Bool
 goes_on [] [] = false
 goes_on [] (y ∷ ys) = true
@@ -80,7 +93,7 @@ no_longer w (b ∷ u) first second =
     not_both true e h = cc
     not_both false e h = cc
 
--- the first word of a text, and of one that goes on behind it
+-- the first word of a text, and of one that goes on after it
 record FirstWords (text more : List ℕ) : Type 0 where
   first : Word
   others : List Word

@@ -79,12 +79,12 @@ id_digits most [] = sym (at_most_none most)
 id_digits zero (b ∷ w) = sym (at_most_full b w)
 id_digits (suc k) (b ∷ w) = counted (λ n. IdDigits n) k (is_ascii_digit b) w ∙ if_digit (is_ascii_digit b) (IdDigits k) w (at_most k w) (id_digits k w) ∙ sym (at_most_next k b w)
 
--- what stands behind a point
-behind_point : (w : Word) → ends_number (Some Point) w ≡ are_digits 3 w
-behind_point [] = refl
-behind_point (b ∷ w) = if_digit (is_ascii_digit b) (Decimals 2) w (at_most 2 w) (decimals 2 w) ∙ sym (are_digits_next 2 b w)
+-- what stands after a point
+after_point : (w : Word) → ends_number (Some Point) w ≡ are_digits 3 w
+after_point [] = refl
+after_point (b ∷ w) = if_digit (is_ascii_digit b) (Decimals 2) w (at_most 2 w) (decimals 2 w) ∙ sym (are_digits_next 2 b w)
 
--- ---- the place of the point
+-- ---- the offset of the point
 position_next : (b : ℕ) (w : Word) → position is_point (b ∷ w) ≡ (if is_point b then Some 0 else option_map suc (position is_point w))
 position_next b w = by (is_point b)
   where
@@ -96,7 +96,7 @@ position_next b w = by (is_point b)
     by true = rw (has_room (length w)) refl
     by false = rw (one_more (position_or_len is_point w), both_less (suc (position_or_len is_point w)) (length w)) (further (nat_lt (position_or_len is_point w) (length w)) (position_or_len is_point w))
 
--- what may follow the first digits, where the point is at this place
+-- what may follow the first digits, where the point is at this offset
 abbrev rest_at : ℕ → Word → Option ℕ → Bool
 rest_at most w None = at_most most w
 rest_at most w (Some at) = at_most most (take at w) && are_digits 3 (drop (at + 1) w)
@@ -120,7 +120,7 @@ rest_full b w None = at_most_full b w
 rest_full b w (Some at) = rw (at_most_full b (take at w)) refl
 
 at_point : (most : ℕ) (w : Word) → ends_number (next_figure (Digits most) 46) w ≡ rest_at most (46 ∷ w) (Some 0)
-at_point most w = rw (and_false (nat_lt 0 most), at_most_none most) (behind_point w)
+at_point most w = rw (and_false (nat_lt 0 most), at_most_none most) (after_point w)
 
 first_digits : (most : ℕ) (w : Word) → ends_number (Some (Digits most)) w ≡ rest_at most w (position is_point w)
 first_digits most [] = sym (at_most_none most)
@@ -135,7 +135,7 @@ first_digits most (b ∷ w) = rw (position_next b w) (by_point most (is_point b)
     by_point most true e h = let P : ℕ → Type 0 = λ c. ends_number (next_figure (Digits most) c) w ≡ rest_at most (c ∷ w) (Some 0) in subst P (sym (eqb-true b 46 e)) (at_point most w)
     by_point most false e h = rw e (by_room most h)
 
--- the unsigned number, where the point is at this place
+-- the unsigned number, where the point is at this offset
 unsigned_next : (b : ℕ) (w : Word) (at : Option ℕ) → is_some (unsigned_at (b ∷ w) (option_map suc at)) ≡ cond (is_ascii_digit b) (rest_at 8 w at) false
 unsigned_next b w None = is_some_if (are_digits 9 (b ∷ w)) _ ∙ are_digits_next 8 b w
 unsigned_next b w (Some at) =
@@ -144,9 +144,9 @@ unsigned_next b w (Some at) =
     (ap (λ t. t && are_digits 3 (drop (at + 1) w)) (are_digits_next 8 b (take at w))
     ∙ cond_and (is_ascii_digit b) (at_most 8 (take at w)) (are_digits 3 (drop (at + 1) w)))
 
-behind_minus : (w : Word) → ends_number (Some Minus) w ≡ is_some (unsigned_of w)
-behind_minus [] = refl
-behind_minus (b ∷ w) = rw (position_next b w) (by_point (is_point b) refl)
+after_minus : (w : Word) → ends_number (Some Minus) w ≡ is_some (unsigned_of w)
+after_minus [] = refl
+after_minus (b ∷ w) = rw (position_next b w) (by_point (is_point b) refl)
   where
     by_point : (point : Bool) → is_point b ≡ point → ends_number (next_figure Minus b) w ≡ is_some (unsigned_at (b ∷ w) (if point then Some 0 else option_map suc (position is_point w)))
     by_point true e = let P : ℕ → Type 0 = λ c. ends_number (next_figure Minus c) w ≡ is_some (unsigned_at (c ∷ w) (Some 0)) in subst P (sym (eqb-true b 46 e)) refl
@@ -156,7 +156,7 @@ behind_minus (b ∷ w) = rw (position_next b w) (by_point (is_point b) refl)
 pub number_scanned : (w : Word) → ends_number (Some Start) w ≡ is_some (number_of w)
 unfolding number_of
 number_scanned [] = refl
-number_scanned (b ∷ w) = by (b == 45) (behind_minus w) (behind_minus (b ∷ w))
+number_scanned (b ∷ w) = by (b == 45) (after_minus w) (after_minus (b ∷ w))
   where
     by : (minus : Bool) → ends_number (Some Minus) w ≡ is_some (unsigned_of w) → ends_number (Some Minus) (b ∷ w) ≡ is_some (unsigned_of (b ∷ w))
         → ends_number (if minus then Some Minus else next_figure Minus b) w ≡ is_some (if minus then option_map (λ n. neg_ℤ (pos n)) (unsigned_of w) else option_map pos (unsigned_of (b ∷ w)))

@@ -84,7 +84,7 @@ has_end (IdDigits more) follower = at_once (IdDigits more) follower refl
 pub scan_has_end : (scan : Scan) → Begins (EndsNumbers scan) []
 scan_has_end scan = has_end scan.figure scan.follower
 
--- ---- the fault place, one byte on
+-- ---- the fault offset, one byte on
 pub stray_byte : (scan : Scan) (b : ℕ) (text : List ℕ) → next_scan scan b ≡ None → IsFirstFault (EndsNumbers scan) (b ∷ text) 0
 stray_byte scan b text none = of_stray b text (λ t h. not_none (next_scan scan b) (words_of t) none (sym (first_byte scan b t) ∙ h))
   where

@@ -1,4 +1,4 @@
--- The fault place of a table's texts, one row after another.
+-- The fault offset of a table's texts, one row after another.
 use Rattle.std.proofs.Common.{◌≡◌, ℕ, max, Bool, true, false, cond, List, [], ◌∷◌, ◌++◌, refl, sym, subst, ◌∙◌, ap, inl, inr, ◌⊎◌, append_assoc, arith, Option, None, Some}
 use Rattle.std.specs.Prelude.{◌&&◌, not, is_some, IsSome, bytes_eq, if◌then◌else◌}
 use Rattle.std.specs.List.{list_all, onto_first}
@@ -8,10 +8,10 @@ use Rattle.std.proofs.lemmas.Slice.Eq.{bytes_eq-Decides}
 use Rattle.ground_num.specs.FirstFault.{IsFirstFault}
 use Rattle.line_protocol.specs.Grammar.{Word, Form, is_space, words_of, by_word, bare}
 use Rattle.line_protocol.specs.declared.figure.Scan.{Scan}
-use Rattle.line_protocol.specs.Fault.{Behind, IsEmpty}
+use Rattle.line_protocol.specs.Fault.{After, IsEmpty}
 use Rattle.line_protocol.specs.Scanning.{EndsNumbers, end_numbers}
 use Rattle.line_protocol.proofs.Splitting.{words_some}
-use Rattle.line_protocol.proofs.Faults.{told_otherwise, of_both, of_none}
+use Rattle.line_protocol.proofs.Faults.{by_other_words, of_both, of_none}
 
 -- ---- a text's first word
 abbrev pub is_one_word : List ℕ → Bool
@@ -72,7 +72,7 @@ parted (b ∷ text) = by (is_space b) refl (parted text)
 abbrev pub IsOfTable : {X : Type 0} → List (Word × Form X) → List ℕ → Type 0
 IsOfTable rows text = IsSome (by_word rows (words_of text))
 
--- the fault place of a table's texts
+-- the fault offset of a table's texts
 pub record IsTableFault (X : Type 0) (rows : List (Word × Form X)) (text : List ℕ) (k : ℕ) : Type 0 where
   pub fault : IsFirstFault (IsOfTable rows) text k
 
@@ -105,7 +105,7 @@ module _ {X : Type 0} (word : Word) (form : Form X) (rows : List (Word × Form X
   to_table : (text : List ℕ) (ws : List Word) → words_of text ≡ word ∷ ws → is_some (form ws) ≡ true → IsOfTable ((word, form) ∷ rows) text
   to_table text ws e h = ap (λ vs. is_some (by_word ((word, form) ∷ rows) vs)) e ∙ ap (λ t. is_some (if t then form ws else by_word rows (word ∷ ws))) (same_word word) ∙ h
 
-  -- the first word is the row's, or the text is of the rows behind
+  -- the first word is the row's, or the text is of the rows after it
   of_row : (text : List ℕ) (w : Word) (ws : List Word) → words_of text ≡ w ∷ ws → IsOfTable ((word, form) ∷ rows) text → IsOfTable rows text ⊎ ((w ≡ word) × (is_some (form ws) ≡ true))
   of_row text w ws e h = by (chosen (bytes_eq w word) (form ws) (by_word rows (w ∷ ws)) (ap (λ vs. is_some (by_word ((word, form) ∷ rows) vs)) (sym e) ∙ h))
     where
@@ -114,45 +114,45 @@ module _ {X : Type 0} (word : Word) (form : Form X) (rows : List (Word × Form X
       by (inr found) = inl (ap (λ vs. is_some (by_word rows vs)) e ∙ found)
 
   -- a row of more than one word
-  pub phrase_row : (test : List Word → Bool) → ((ws : List Word) → is_some (form ws) ≡ test ws) → test [] ≡ false → (text : List ℕ) (a b k : ℕ) → k ≡ max a b → IsTableFault X rows text a → IsFirstFault (Behind (word ++ 32 ∷ []) (λ rest. test (words_of rest) ≡ true)) text b → IsTableFault X ((word, form) ∷ rows) text k
-  phrase_row test same more text a b k e first second = record { fault = subst (IsFirstFault (IsOfTable ((word, form) ∷ rows)) text) (sym e) (told_otherwise text (max a b) from to (of_both text a b first.fault second)) }
+  pub phrase_row : (test : List Word → Bool) → ((ws : List Word) → is_some (form ws) ≡ test ws) → test [] ≡ false → (text : List ℕ) (a b k : ℕ) → k ≡ max a b → IsTableFault X rows text a → IsFirstFault (After (word ++ 32 ∷ []) (λ rest. test (words_of rest) ≡ true)) text b → IsTableFault X ((word, form) ∷ rows) text k
+  phrase_row test same more text a b k e first second = record { fault = subst (IsFirstFault (IsOfTable ((word, form) ∷ rows)) text) (sym e) (by_other_words text (max a b) from to (of_both text a b first.fault second)) }
     where
-      from : (t : List ℕ) → IsOfTable rows t ⊎ Behind (word ++ 32 ∷ []) (λ rest. test (words_of rest) ≡ true) t → IsOfTable ((word, form) ∷ rows) t
+      from : (t : List ℕ) → IsOfTable rows t ⊎ After (word ++ 32 ∷ []) (λ rest. test (words_of rest) ≡ true) t → IsOfTable ((word, form) ∷ rows) t
       from t (inl h) = from_rest t h
       from t (inr h) = to_table t (words_of h.0) (ap words_of (h.1 ∙ append_assoc word (32 ∷ []) h.0) ∙ word_then word h.0 one) (same (words_of h.0) ∙ h.2)
 
-      by : (t : List ℕ) → (words_of t ≡ t ∷ []) ⊎ Parted t → IsOfTable ((word, form) ∷ rows) t → IsOfTable rows t ⊎ Behind (word ++ 32 ∷ []) (λ rest. test (words_of rest) ≡ true) t
+      by : (t : List ℕ) → (words_of t ≡ t ∷ []) ⊎ Parted t → IsOfTable ((word, form) ∷ rows) t → IsOfTable rows t ⊎ After (word ++ 32 ∷ []) (λ rest. test (words_of rest) ≡ true) t
       by t (inl alone) h = alone_by (of_row t t [] alone h)
         where
-          alone_by : IsOfTable rows t ⊎ ((t ≡ word) × (is_some (form []) ≡ true)) → IsOfTable rows t ⊎ Behind (word ++ 32 ∷ []) (λ rest. test (words_of rest) ≡ true) t
+          alone_by : IsOfTable rows t ⊎ ((t ≡ word) × (is_some (form []) ≡ true)) → IsOfTable rows t ⊎ After (word ++ 32 ∷ []) (λ rest. test (words_of rest) ≡ true) t
           alone_by (inl found) = inl found
           alone_by (inr found) = absurd (no_texts (test []) more (sym (same []) ∙ found.1))
       by t (inr parts) h = then_by (of_row t parts.first (words_of parts.rest) parts.words h)
         where
-          then_by : IsOfTable rows t ⊎ ((parts.first ≡ word) × (is_some (form (words_of parts.rest)) ≡ true)) → IsOfTable rows t ⊎ Behind (word ++ 32 ∷ []) (λ rest. test (words_of rest) ≡ true) t
+          then_by : IsOfTable rows t ⊎ ((parts.first ≡ word) × (is_some (form (words_of parts.rest)) ≡ true)) → IsOfTable rows t ⊎ After (word ++ 32 ∷ []) (λ rest. test (words_of rest) ≡ true) t
           then_by (inl found) = inl found
           then_by (inr found) = inr (parts.rest, parts.whole ∙ ap (λ w. w ++ 32 ∷ parts.rest) found.0 ∙ sym (append_assoc word (32 ∷ []) parts.rest), sym (same (words_of parts.rest)) ∙ found.1)
 
-      to : (t : List ℕ) → IsOfTable ((word, form) ∷ rows) t → IsOfTable rows t ⊎ Behind (word ++ 32 ∷ []) (λ rest. test (words_of rest) ≡ true) t
+      to : (t : List ℕ) → IsOfTable ((word, form) ∷ rows) t → IsOfTable rows t ⊎ After (word ++ 32 ∷ []) (λ rest. test (words_of rest) ≡ true) t
       to t h = by t (parted t) h
 
   -- a row of numbers
-  pub numbers_row : (scan : Scan) → ((ws : List Word) → end_numbers (Some scan) ws ≡ is_some (form ws)) → (text : List ℕ) (a b k : ℕ) → k ≡ max a b → IsTableFault X rows text a → IsFirstFault (Behind (word ++ 32 ∷ []) (EndsNumbers scan)) text b → IsTableFault X ((word, form) ∷ rows) text k
+  pub numbers_row : (scan : Scan) → ((ws : List Word) → end_numbers (Some scan) ws ≡ is_some (form ws)) → (text : List ℕ) (a b k : ℕ) → k ≡ max a b → IsTableFault X rows text a → IsFirstFault (After (word ++ 32 ∷ []) (EndsNumbers scan)) text b → IsTableFault X ((word, form) ∷ rows) text k
   numbers_row scan same text a b k e first second = phrase_row (λ ws. end_numbers (Some scan) ws) (λ ws. sym (same ws)) refl text a b k e first second
 
 -- a row of one word
 module _ {X : Type 0} (word : Word) (x : X) (rows : List (Word × Form X)) (one : is_one_word word ≡ true) (fresh : (ws : List Word) → by_word rows (word ∷ ws) ≡ None) where
-  pub bare_row : (text : List ℕ) (a b k : ℕ) → k ≡ max a b → IsTableFault X rows text a → IsFirstFault (Behind word IsEmpty) text b → IsTableFault X ((word, bare x) ∷ rows) text k
-  bare_row text a b k e first second = record { fault = subst (IsFirstFault (IsOfTable ((word, bare x) ∷ rows)) text) (sym e) (told_otherwise text (max a b) from to (of_both text a b first.fault second)) }
+  pub bare_row : (text : List ℕ) (a b k : ℕ) → k ≡ max a b → IsTableFault X rows text a → IsFirstFault (After word IsEmpty) text b → IsTableFault X ((word, bare x) ∷ rows) text k
+  bare_row text a b k e first second = record { fault = subst (IsFirstFault (IsOfTable ((word, bare x) ∷ rows)) text) (sym e) (by_other_words text (max a b) from to (of_both text a b first.fault second)) }
     where
-      from : (t : List ℕ) → IsOfTable rows t ⊎ Behind word IsEmpty t → IsOfTable ((word, bare x) ∷ rows) t
+      from : (t : List ℕ) → IsOfTable rows t ⊎ After word IsEmpty t → IsOfTable ((word, bare x) ∷ rows) t
       from t (inl h) = from_rest word (bare x) rows one fresh t h
       from t (inr h) = to_table word (bare x) rows one fresh t [] (ap words_of (h.1 ∙ ap (λ r. word ++ r) h.2 ∙ append-nil word) ∙ word_alone word one) refl
 
-      by : (t : List ℕ) → (words_of t ≡ t ∷ []) ⊎ Parted t → IsOfTable ((word, bare x) ∷ rows) t → IsOfTable rows t ⊎ Behind word IsEmpty t
+      by : (t : List ℕ) → (words_of t ≡ t ∷ []) ⊎ Parted t → IsOfTable ((word, bare x) ∷ rows) t → IsOfTable rows t ⊎ After word IsEmpty t
       by t (inl alone) h = alone_by (of_row word (bare x) rows one fresh t t [] alone h)
         where
-          alone_by : IsOfTable rows t ⊎ ((t ≡ word) × (is_some (bare x []) ≡ true)) → IsOfTable rows t ⊎ Behind word IsEmpty t
+          alone_by : IsOfTable rows t ⊎ ((t ≡ word) × (is_some (bare x []) ≡ true)) → IsOfTable rows t ⊎ After word IsEmpty t
           alone_by (inl found) = inl found
           alone_by (inr found) = inr ([], found.0 ∙ sym (append-nil word), refl)
       by t (inr parts) h = then_by (of_row word (bare x) rows one fresh t parts.first (words_of parts.rest) parts.words h)
@@ -160,11 +160,11 @@ module _ {X : Type 0} (word : Word) (x : X) (rows : List (Word × Form X)) (one 
           none_then : is_some (bare x (words_of parts.rest)) ≡ true → ⊥
           none_then h = let some = words_some parts.rest in no_texts (is_some (bare x (words_of parts.rest))) (ap (λ ws. is_some (bare x ws)) some.2) h
 
-          then_by : IsOfTable rows t ⊎ ((parts.first ≡ word) × (is_some (bare x (words_of parts.rest)) ≡ true)) → IsOfTable rows t ⊎ Behind word IsEmpty t
+          then_by : IsOfTable rows t ⊎ ((parts.first ≡ word) × (is_some (bare x (words_of parts.rest)) ≡ true)) → IsOfTable rows t ⊎ After word IsEmpty t
           then_by (inl found) = inl found
           then_by (inr found) = absurd (none_then found.1)
 
-      to : (t : List ℕ) → IsOfTable ((word, bare x) ∷ rows) t → IsOfTable rows t ⊎ Behind word IsEmpty t
+      to : (t : List ℕ) → IsOfTable ((word, bare x) ∷ rows) t → IsOfTable rows t ⊎ After word IsEmpty t
       to t h = by t (parted t) h
 
 -- no rows

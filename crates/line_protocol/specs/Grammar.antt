@@ -30,7 +30,7 @@ is_point b = b == 46
 abbrev pub fraction_value : Word → ℕ
 fraction_value bs = digits_value 10 bs * 10 ^ (3 - length bs)
 
--- One to nine digits, and optionally a point and one to three digits, in thousandths. `at` is the place of the point.
+-- One to nine digits, and optionally a point and one to three digits, in thousandths. `at` is the offset of the point.
 abbrev pub unsigned_at : Word → Option ℕ → Option ℕ
 unsigned_at bs None = if are_digits 9 bs then Some (digits_value 10 bs * 1000) else None
 unsigned_at bs (Some at) =
@@ -41,7 +41,7 @@ unsigned_at bs (Some at) =
 abbrev pub unsigned_of : Word → Option ℕ
 unsigned_of bs = unsigned_at bs (position is_point bs)
 
--- the same after an optional minus
+-- such a number, or one after a minus
 unfoldable pub number_of : Word → Option ℤ
 number_of [] = None
 number_of (b ∷ bs) = if b == 45 then option_map (λ n. neg_ℤ (pos n)) (unsigned_of bs) else option_map pos (unsigned_of (b ∷ bs))
@@ -120,17 +120,20 @@ unfoldable pub line_edit : Form SpokenEdit
 line_edit [] = None
 line_edit (w ∷ ws) = option_map (λ line. AddLine line.0 line.1) (both (kind_named w) (places ws))
 
-unfoldable pub edit : Form SpokenEdit
-edit = by_word (
+abbrev pub edit_rows : List (Word × Form SpokenEdit)
+edit_rows =
     (codes "add", λ ws. option_map (λ s. AddPoint s.0 s.1) (spot ws))
     ∷ (codes "remove", λ ws. option_map RemovePoint (place ws))
     ∷ (codes "set", λ ws. option_map (λ s. SetLevel s.0 s.1) (spot ws))
     ∷ (codes "line", line_edit)
     ∷ (codes "unline", λ ws. option_map RemoveLine (id ws))
-    ∷ [])
+    ∷ []
 
-unfoldable pub request : Form Spoken
-request = by_word (
+unfoldable pub edit : Form SpokenEdit
+edit = by_word edit_rows
+
+abbrev pub request_rows : List (Word × Form Spoken)
+request_rows =
     (codes "sync", bare Sync)
     ∷ (codes "plan", λ ws. option_map Plan (edit ws))
     ∷ (codes "commit", bare Commit)
@@ -141,7 +144,10 @@ request = by_word (
     ∷ (codes "stat", bare Stat)
     ∷ (codes "export", bare Export)
     ∷ (codes "quit", bare Quit)
-    ∷ [])
+    ∷ []
+
+unfoldable pub request : Form Spoken
+request = by_word request_rows
 
 -- the request of a line, where it is one
 unfoldable pub spoken : List ℕ → Option Spoken

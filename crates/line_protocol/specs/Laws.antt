@@ -1,16 +1,15 @@
 -- What holds of all lines of the protocol.
-use Rattle.std.specs.Prelude.{◌≡◌, ℕ, List, ◌++◌, take, Some}
-use Rattle.line_protocol.specs.Spoken.{Spoken}
-use Rattle.line_protocol.specs.Grammar.{words_of, spoken}
-use Rattle.line_protocol.specs.Fault.{IsRequest, IsFaultPlace}
+use Rattle.std.specs.Prelude.{◌≡◌, ℕ, List, ◌∷◌, ◌++◌, take, All}
+use Rattle.line_protocol.specs.Grammar.{Word, Form, words_of}
+use Rattle.line_protocol.specs.Fault.{IsRequest, IsFaultOffset}
 
--- a line spells at most one request
-abbrev pub OneRequest : Type 0
-OneRequest = (line : List ℕ) (a b : Spoken) → spoken line ≡ Some a → spoken line ≡ Some b → a ≡ b
+-- whatever stands after a row's word, the row reads it: no row is shadowed by one above it
+abbrev pub ReadsEachRow : {X : Type 0} → Form X → List (Word × Form X) → Type 0
+ReadsEachRow form rows = All (λ row. (ws : List Word) → form (row.0 ∷ ws) ≡ row.1 ws) rows
 
--- a line has at most one fault place
-abbrev pub OneFaultPlace : Type 0
-OneFaultPlace = (line : List ℕ) (j k : ℕ) → IsFaultPlace line j → IsFaultPlace line k → j ≡ k
+-- a line has at most one fault offset
+abbrev pub OneFaultOffset : Type 0
+OneFaultOffset = (line : List ℕ) (j k : ℕ) → IsFaultOffset line j → IsFaultOffset line k → j ≡ k
 
 -- a request's line that goes on to a request's line keeps its first word
 abbrev pub KeepsFirstWord : Type 0

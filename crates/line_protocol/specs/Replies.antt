@@ -2,6 +2,7 @@
 use Rattle.std.specs.Prelude.{ℕ, ◌≤◌, ◌^◌, ℤ, ◌+ℤ◌, unsigned_abs, List, [], ◌∷◌, ◌++◌, length, codes, Option, Some, None, Result, MatchResult, ◌≡◌, ⊤}
 use Rattle.std.specs.List.{flat_map}
 use Rattle.std.specs.Io.KnownBytes.{Appends}
+use Rattle.ground_io.specs.Order.{Event, SendsAll, SendsSome}
 use Rattle.ground_io.specs.Streams.{AppendsSome}
 use Rattle.std.specs.Fmt.{decimal, signed_decimal}
 use Rattle.ground_num.specs.Decimal.{thousandths_text, volume_text}
@@ -29,7 +30,7 @@ spaced_level z = 32 ∷ thousandths_text z
 abbrev pub spaced_place : Origin → Coords → List ℕ
 spaced_place o p = spaced_level (p.n +ℤ o.n.0) ++ spaced_level (p.e +ℤ o.e.0)
 
--- without the first space
+-- `N E`, with the origin added, and no space before them
 abbrev pub place_text : Origin → Coords → List ℕ
 place_text o p = thousandths_text (p.n +ℤ o.n.0) ++ spaced_level (p.e +ℤ o.e.0)
 
@@ -72,7 +73,7 @@ cut_text o cut = place_text o cut.from ++ spaced_place o cut.to
 abbrev pub volume_texts : Volumes → List ℕ
 volume_texts v = 32 ∷ volume_text v.cut ++ 32 ∷ volume_text v.fill ++ 32 ∷ volume_text v.net
 
--- the same as whole sixths of a cubic thousandth
+-- the three numbers of a volume in whole sixths of a cubic thousandth
 abbrev pub wholes : Volumes → List ℕ
 wholes v = 32 ∷ signed_decimal v.cut ++ 32 ∷ signed_decimal v.fill ++ 32 ∷ signed_decimal v.net
 
@@ -123,3 +124,7 @@ HasVolumeWithin reply = ⊤
 -- At Ok the front of the text was written, so that the rest is left; else a beginning of it was.
 abbrev pub Hands : {E : Type 0} → Option (List ℕ) → Option (List ℕ) → List ℕ → List ℕ → Result Unit E → Type 0
 Hands old new text left result = MatchResult result (λ _. (front : List ℕ) × (front ++ left ≡ text) × Appends old new front) (λ _. AppendsSome old new text)
+
+-- what writes of a text's front sent: the front alone, or a beginning of the text where a write failed
+abbrev pub SendsFront : {E : Type 0} → Option (List Event) → Option (List Event) → List ℕ → List ℕ → Result Unit E → Type 0
+SendsFront old new text left result = MatchResult result (λ _. (front : List ℕ) × (front ++ left ≡ text) × SendsAll old new front) (λ _. SendsSome old new text)

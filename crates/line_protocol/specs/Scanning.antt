@@ -9,7 +9,7 @@ use Rattle.line_protocol.specs.declared.figure.Scan.{Scan}
 use Rattle.line_protocol.specs.Grammar.{Word, words_of}
 
 -- ---- a number
--- how far it has come with one byte more, where the byte is allowed
+-- how far a number has come with one byte more, where the byte is allowed
 abbrev pub next_figure : Figure → ℕ → Option Figure
 next_figure Start b = if b == 45 then Some Minus else if is_ascii_digit b then Some (Digits 8) else None
 next_figure Minus b = if is_ascii_digit b then Some (Digits 8) else None
@@ -64,7 +64,7 @@ end_numbers None ws = false
 end_numbers (Some scan) [] = false
 end_numbers (Some scan) (w ∷ ws) = ends_number (Some scan.figure) w && are_followers (Some scan.follower) ws
 
--- how far they have come with one byte more, where the byte is allowed
+-- how far numbers have come with one byte more, where the byte is allowed
 abbrev pub next_scan : Scan → ℕ → Option Scan
 next_scan scan b =
     if b == 32

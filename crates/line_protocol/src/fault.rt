@@ -3,7 +3,7 @@
 ghost use Rattle.std.specs.Prelude.{◌≡◌, ◌≤◌, length, nat_eq};
 ghost use Rattle.std.specs.List.{common_prefix_len};
 ghost use Rattle.ground_num.specs.FirstFault.{IsFirstFault};
-ghost use Rattle.line_protocol.specs.Fault.{Behind, IsEdit, IsEmpty, IsFaultPlace, IsLine};
+ghost use Rattle.line_protocol.specs.Fault.{After, IsEdit, IsEmpty, IsFaultOffset, IsLine};
 ghost use Rattle.line_protocol.specs.Scanning.{EndsNumbers};
 
 use crate::figure::Scan;
@@ -20,14 +20,14 @@ fn common_front(phrase: &[u8], text: &[u8]) -> usize
     front
 }
 
-// The fault place of a text that should be this word alone.
+// The fault offset of a text that should be this word alone.
 fn word_fault(word: &[u8], text: &[u8]) -> usize
-    ensures { IsFirstFault (Behind word.now IsEmpty) text.now result }
+    ensures { IsFirstFault (After word.now IsEmpty) text.now result }
 {
     common_front(word, text)
 }
 
-// The fault place of a text that should be numbers.
+// The fault offset of a text that should be numbers.
 fn numbers_fault(mut scan: Scan, text: &[u8]) -> usize
     ensures { IsFirstFault (EndsNumbers scan) text.now result }
 {
@@ -40,9 +40,9 @@ fn numbers_fault(mut scan: Scan, text: &[u8]) -> usize
     text.len()
 }
 
-// The same, of numbers behind a phrase.
-fn numbers_behind(phrase: &[u8], scan: Scan, text: &[u8]) -> usize
-    ensures { IsFirstFault (Behind phrase.now (EndsNumbers scan)) text.now result }
+// The fault offset of a text that should be a phrase and numbers after it.
+fn numbers_after(phrase: &[u8], scan: Scan, text: &[u8]) -> usize
+    ensures { IsFirstFault (After phrase.now (EndsNumbers scan)) text.now result }
 {
     let front = common_front(phrase, text);
     if front < phrase.len() {
@@ -51,19 +51,19 @@ fn numbers_behind(phrase: &[u8], scan: Scan, text: &[u8]) -> usize
     front + numbers_fault(scan, &text[front..])
 }
 
-// The fault place of a text that should be a kind and the places of a line.
+// The fault offset of a text that should be a kind and the places of a line.
 fn line_fault(text: &[u8]) -> usize
     ensures { IsFirstFault IsLine text.now result }
 {
-    numbers_behind(b"island ", Scan::PLACES, text)
-        .max(numbers_behind(b"void ", Scan::PLACES, text))
-        .max(numbers_behind(b"outer ", Scan::PLACES, text))
-        .max(numbers_behind(b"break ", Scan::PLACES, text))
+    numbers_after(b"island ", Scan::PLACES, text)
+        .max(numbers_after(b"void ", Scan::PLACES, text))
+        .max(numbers_after(b"outer ", Scan::PLACES, text))
+        .max(numbers_after(b"break ", Scan::PLACES, text))
 }
 
-// The same, behind a phrase.
-fn line_behind(phrase: &[u8], text: &[u8]) -> usize
-    ensures { IsFirstFault (Behind phrase.now IsLine) text.now result }
+// The fault offset of a text that should be a phrase and a new line after it.
+fn line_after(phrase: &[u8], text: &[u8]) -> usize
+    ensures { IsFirstFault (After phrase.now IsLine) text.now result }
 {
     let front = common_front(phrase, text);
     if front < phrase.len() {
@@ -72,20 +72,20 @@ fn line_behind(phrase: &[u8], text: &[u8]) -> usize
     front + line_fault(&text[front..])
 }
 
-// The fault place of a text that should be an edit.
+// The fault offset of a text that should be an edit.
 fn edit_fault(text: &[u8]) -> usize
     ensures { IsFirstFault IsEdit text.now result }
 {
-    numbers_behind(b"unline ", Scan::ID, text)
-        .max(line_behind(b"line ", text))
-        .max(numbers_behind(b"set ", Scan::SPOT, text))
-        .max(numbers_behind(b"remove ", Scan::PLACE, text))
-        .max(numbers_behind(b"add ", Scan::SPOT, text))
+    numbers_after(b"unline ", Scan::ID, text)
+        .max(line_after(b"line ", text))
+        .max(numbers_after(b"set ", Scan::SPOT, text))
+        .max(numbers_after(b"remove ", Scan::PLACE, text))
+        .max(numbers_after(b"add ", Scan::SPOT, text))
 }
 
-// The same, behind a phrase.
-fn edit_behind(phrase: &[u8], text: &[u8]) -> usize
-    ensures { IsFirstFault (Behind phrase.now IsEdit) text.now result }
+// The fault offset of a text that should be a phrase and an edit after it.
+fn edit_after(phrase: &[u8], text: &[u8]) -> usize
+    ensures { IsFirstFault (After phrase.now IsEdit) text.now result }
 {
     let front = common_front(phrase, text);
     if front < phrase.len() {
@@ -94,19 +94,19 @@ fn edit_behind(phrase: &[u8], text: &[u8]) -> usize
     front + edit_fault(&text[front..])
 }
 
-/// The place of the first byte that no request allows behind those before it, or the line's length.
+/// The offset of the first byte that no request allows after those before it, or the line's length.
 /// Takes no memory, and looks at each byte at most once for each phrase that may stand there.
-pub(crate) fn fault_place(line: &[u8]) -> usize
-    ensures { IsFaultPlace line.now result }
+pub(crate) fn fault_offset(line: &[u8]) -> usize
+    ensures { IsFaultOffset line.now result }
 {
     word_fault(b"quit", line)
         .max(word_fault(b"export", line))
         .max(word_fault(b"stat", line))
-        .max(numbers_behind(b"volume ", Scan::LEVEL, line))
-        .max(numbers_behind(b"contour ", Scan::LEVEL, line))
-        .max(numbers_behind(b"level ", Scan::PLACE, line))
-        .max(edit_behind(b"do ", line))
+        .max(numbers_after(b"volume ", Scan::LEVEL, line))
+        .max(numbers_after(b"contour ", Scan::LEVEL, line))
+        .max(numbers_after(b"level ", Scan::PLACE, line))
+        .max(edit_after(b"do ", line))
         .max(word_fault(b"commit", line))
-        .max(edit_behind(b"plan ", line))
+        .max(edit_after(b"plan ", line))
         .max(word_fault(b"sync", line))
 }

@@ -39,6 +39,7 @@ pub(crate) struct Scan {
 }
 
 impl Figure {
+    // How far it has come with this byte, where it is allowed.
     fn after(self, b: u8) -> Option<Figure>
         ensures { result ≡ next_figure self b }
     {
@@ -61,7 +62,7 @@ impl Figure {
         }
     }
 
-    // A number may end here.
+    // Whether a number may end here.
     fn is_whole(self) -> bool
         ensures { result ≡ is_whole self }
     {
@@ -118,7 +119,7 @@ impl Scan {
         follower: Follower::Nothing,
     };
 
-    /// How far they have come with this byte, where it is allowed.
+    /// How far the numbers have come with this byte, where it is allowed.
     pub(crate) fn after(self, b: u8) -> Option<Scan>
         ensures { result ≡ next_scan self b }
     {

@@ -8,13 +8,16 @@ mod law;
 mod line_edit;
 mod number;
 mod place;
+mod place_text;
 mod put;
 mod read;
+mod reason_text;
 mod reply;
 mod request;
 #[cfg(test)]
 mod tests;
 mod text;
+mod volume_text;
 mod words;
 
 pub use law::grammar_law;

@@ -1,12 +1,11 @@
 //! A new line, as a line of the protocol spells it.
 
-ghost use Rattle.std.specs.Prelude.{◌≡◌, ◌++◌, ◌∷◌, [], ◌<◌, ◌^◌, List, Some, None, IfSome, MatchOption, option_map, length};
+ghost use Rattle.std.specs.Prelude.{◌≡◌, ◌<◌, ◌^◌, ◌&&◌, Some, None, IfSome, MatchOption, option_map, option_and_then, length};
 ghost use Rattle.ground_num.specs.Decimal.{IsWithin};
 ghost use Rattle.ground_num.specs.Head.{IsOrigin};
-ghost use Rattle.ground_model.specs.Place.{Coords};
 ghost use Rattle.line_protocol.specs.Grammar.{words_of, places, kind_named, line_edit};
-ghost use Rattle.line_protocol.specs.Within.{edit_within, places_within};
-ghost use Rattle.line_protocol.specs.Reading.{IsRead, IsPair, always, has_places};
+ghost use Rattle.line_protocol.specs.Within.{is_place, from_origin, edit_within, places_within};
+ghost use Rattle.line_protocol.specs.Reading.{IsRead, IsPair, always, never, checked, has_places};
 
 use crate::place::{Coordinates, place_from, read_coordinates};
 use crate::words::{Unread, first_word};
@@ -14,7 +13,7 @@ use ground_model::{Edit, LineKind, Listed, Places};
 use ground_num::Origin;
 use std::alloc::Global;
 
-// The first pair of a list of pairs, and what comes behind its space.
+// The first pair of a list of pairs, and what comes after its space.
 #[tactic(auto, unfolding(crate::specs::Grammar::places))]
 fn read_pair(text: &[u8]) -> Option<(Coordinates, Option<&[u8]>)>
     ensures pair { MatchOption result (places (words_of text.now) ≡ None) (λ pair. IsPair (words_of text.now) (record { e = pair.0.e.0; n = pair.0.n.0 }) (option_map (λ rest. words_of rest.now) pair.1)) }
@@ -28,46 +27,74 @@ fn read_pair(text: &[u8]) -> Option<(Coordinates, Option<&[u8]>)>
     }
 }
 
-// The places read so far and one more, unless one of them is outside or there is no memory.
-fn with_place(
-    so_far: Result<Places, Unread>,
-    coordinates: Coordinates,
-    origin: &Origin,
-) -> Result<Places, Unread>
+// Whether this place and all before it are within the limit.
+fn are_still_within(within: bool, coordinates: Coordinates, origin: &Origin) -> bool
     requires n { IsWithin (10 ^ 12) coordinates.n.0 }
     requires e { IsWithin (10 ^ 12) coordinates.e.0 }
     requires origin { IsOrigin origin.now }
-    ensures { (front : List Coords) → IsRead (Some front) (places_within origin.now) always so_far → IsRead (Some (front ++ record { e = coordinates.e.0; n = coordinates.n.0 } ∷ [])) (places_within origin.now) always result }
+    ensures { result ≡ (within && is_place (from_origin origin.now (record { e = coordinates.e.0; n = coordinates.n.0 }))) }
 {
-    let mut places = so_far?.into_vec();
-    let Some(place) = place_from(coordinates, origin) else {
-        return Err(Unread::Outside);
-    };
-    match places.push(place) {
-        Ok(()) => Ok(Listed::from_vec(places)),
-        Err(_) => Err(Unread::NoRoom),
-    }
+    within && place_from(coordinates, origin).is_some()
 }
 
-// One place or more. What is no pair comes before what is outside.
-fn read_places(alloc: Global, text: &[u8], origin: &Origin) -> Result<Places, Unread>
+// Whether the text is one place or more, all within the limit. What is no pair comes before what is
+// outside. Takes no memory.
+fn check_places(text: &[u8], origin: &Origin) -> Result<(), Unread>
     requires { IsOrigin origin.now }
-    ensures { IsRead (places (words_of text.now)) (places_within origin.now) always result }
+    ensures { IsRead (places (words_of text.now)) (checked origin.now) never result }
 {
-    let mut so_far = Ok(Listed::from_vec(Vec::new(alloc)));
+    let mut within = true;
     let mut left = text;
     'pairs: loop {
         let Some((coordinates, rest)) = read_pair(left) else {
             return Err(Unread::NoSuch);
         };
-        so_far = with_place(so_far, coordinates, origin);
+        within = are_still_within(within, coordinates, origin);
         match rest {
-            None => return so_far,
+            None if within => return Ok(()),
+            None => return Err(Unread::Outside),
             Some(rest) => left = rest,
         }
     }
 }
 
+// The places of a text that was checked: memory alone may be wanting.
+fn fill_places(alloc: Global, text: &[u8], origin: &Origin) -> Result<Places, Unread>
+    requires origin { IsOrigin origin.now }
+    requires checked { option_and_then (checked origin.now) (places (words_of text.now)) ≡ Some tt }
+    ensures { IsRead (places (words_of text.now)) (places_within origin.now) always result }
+{
+    let mut places = Vec::new(alloc);
+    let mut left = text;
+    'pairs: loop {
+        let Some((coordinates, rest)) = read_pair(left) else {
+            return Err(Unread::NoSuch);
+        };
+        let Some(place) = place_from(coordinates, origin) else {
+            return Err(Unread::Outside);
+        };
+        let Ok(()) = places.push(place) else {
+            return Err(Unread::NoRoom);
+        };
+        match rest {
+            None => return Ok(Listed::from_vec(places)),
+            Some(rest) => left = rest,
+        }
+    }
+}
+
+// One place or more. Memory is taken once all are known to be within the limit.
+fn read_places(alloc: Global, text: &[u8], origin: &Origin) -> Result<Places, Unread>
+    requires { IsOrigin origin.now }
+    ensures { IsRead (places (words_of text.now)) (places_within origin.now) always result }
+{
+    match check_places(text, origin) {
+        Ok(()) => fill_places(alloc, text, origin),
+        Err(unread) => Err(unread),
+    }
+}
+
+// The kind that a word names.
 #[tactic(auto, unfolding(crate::specs::Grammar::kind_named))]
 fn read_kind(word: &[u8]) -> Option<LineKind>
     ensures { result ≡ kind_named word.now }

@@ -7,7 +7,7 @@ ghost use Rattle.std.specs.Str.Parse.{digits_value};
 ghost use Rattle.ground_num.specs.Decimal.{IsWithin};
 ghost use Rattle.line_protocol.specs.Grammar.{are_digits, fraction_value, unsigned_of, number_of, id_of};
 
-use crate::words::place_of_byte;
+use crate::words::offset_of_byte;
 use ground_model::LineId;
 use ground_num::Thousandths;
 
@@ -25,13 +25,14 @@ fn value_of_digits(text: &[u8]) -> u64
     value
 }
 
+// Whether each byte is a digit.
 fn are_all_digits(text: &[u8]) -> bool
     ensures { result ≡ list_all is_ascii_digit text.now }
 {
     text.iter().all(|b| b.is_ascii_digit())
 }
 
-/// One to `most` digits.
+// One to `most` digits.
 #[tactic(auto, using(crate::proofs::Digits::power_of_ten_mono))]
 fn read_digits(text: &[u8], most: usize) -> Option<u64>
     requires { most ≤ 9 }
@@ -46,7 +47,7 @@ fn read_digits(text: &[u8], most: usize) -> Option<u64>
     Some(value_of_digits(text))
 }
 
-/// Up to three digits after a point, in thousandths.
+// Up to three digits after a point, in thousandths.
 fn read_fraction(text: &[u8]) -> Option<u64>
     ensures value { result ≡ (if are_digits 3 text.now then Some (fraction_value text.now) else None) }
     ensures small { IfSome result (λ n. n < 1000) }
@@ -59,11 +60,12 @@ fn read_fraction(text: &[u8]) -> Option<u64>
     })
 }
 
+// One to nine digits, and a point with one to three digits or none, in thousandths.
 fn read_unsigned(text: &[u8]) -> Option<u64>
     ensures value { result ≡ unsigned_of text.now }
     ensures small { IfSome result (λ n. n < 10 ^ 12) }
 {
-    match place_of_byte(b'.', text) {
+    match offset_of_byte(b'.', text) {
         Some(at) => {
             let whole = read_digits(&text[..at], 9)?;
             let fraction = read_fraction(&text[at + 1..])?;

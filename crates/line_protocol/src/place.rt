@@ -73,6 +73,7 @@ fn three_words(text: &[u8]) -> Option<(&[u8], &[u8], &[u8])>
     }
 }
 
+// The place that two words spell. What is no number comes before what is outside.
 fn place_of_words(n: &[u8], e: &[u8], origin: &Origin) -> Result<Place, Unread>
     requires { IsOrigin origin.now }
     ensures { IsRead (place_of n.now e.now) (place_within origin.now) never result }
@@ -97,6 +98,7 @@ pub(crate) fn read_place(text: &[u8], origin: &Origin) -> Result<Place, Unread>
     }
 }
 
+// The level that a word spells.
 fn level_of_word(word: &[u8]) -> Result<Level, Unread>
     ensures { IsRead (number_of word.now) level_within never result }
 {

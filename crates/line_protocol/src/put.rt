@@ -1,61 +1,25 @@
 //! Replies, written as their texts.
 
-ghost use Rattle.std.specs.Prelude.{◌≡◌, ◌+◌, ◌≤◌, ◌++◌, ◌∷◌, [], ◌+ℤ◌, ◌^◌, List, ℕ, length, OnOk};
-ghost use Rattle.std.specs.Fmt.{decimal};
-ghost use Rattle.ground_num.specs.Decimal.{IsWithin, thousandths_text};
+ghost use Rattle.std.specs.Prelude.{◌≡◌, ◌+◌, ◌≤◌, ◌++◌, ◌∷◌, [], length, OnOk};
 ghost use Rattle.ground_num.specs.Head.{IsOrigin};
 ghost use Rattle.ground_io.specs.Causes.{HasCause};
+ghost use Rattle.ground_io.specs.Order.{SendsText};
 ghost use Rattle.ground_io.specs.Streams.{WritesText};
-ghost use Rattle.line_protocol.specs.Replies.{spaced_place, spaced_level, place_text, line_text, mark_text, reason_text, level_text, volume_texts, sixths_words, wholes, stat_words, first_words, cut_text, lines_text, reply_text, Hands, IsVolumeWithin, HasVolumeWithin};
+ghost use Rattle.line_protocol.specs.Replies.{line_text, level_text, stat_words, first_words, cut_text, lines_text, reply_text, Hands, SendsFront, HasVolumeWithin};
 
+use crate::place_text::{add_cut, add_level, add_mark};
+use crate::reason_text::{add_counted, add_pair, add_reason};
 use crate::reply::Reply;
 use crate::text::Text;
+use crate::volume_text::{add_sixths, add_volume_texts};
 use ground_io::{Failed, Sink, write_all};
-use ground_model::{Cut, Level, LineId, Mark, Place, Refusal, Volume};
-use ground_num::{Origin, Thousandths};
+use ground_model::{Cut, Level, LineId};
+use ground_num::Origin;
 
-// A space and the level.
-fn add_level(text: &mut Text, level: Level)
-    requires { length text.old + 25 ≤ 512 }
-    ensures text { text.new ≡ text.old ++ spaced_level level }
-    ensures fits { length text.new ≤ length text.old + 25 }
-{
-    text.add(b" ");
-    text.add_thousandths(i64::from(level.get()));
-}
+/// The most bytes that the pieces of a contour have before a further line: a line more fits in.
+const FULL: usize = 400;
 
-// A coordinate in the document's system.
-fn add_coordinate(text: &mut Text, coordinate: i32, origin: Thousandths)
-    requires origin { IsWithin (2 ^ 50) origin.0 }
-    requires room { length text.old + 24 ≤ 512 }
-    ensures text { text.new ≡ text.old ++ thousandths_text (coordinate +ℤ origin.0) }
-    ensures fits { length text.new ≤ length text.old + 24 }
-{
-    text.add_thousandths(i64::from(coordinate) + origin.0);
-}
-
-// The northing and the easting, with the origin added.
-fn add_place(text: &mut Text, origin: &Origin, place: Place)
-    requires origin { IsOrigin origin.now }
-    requires room { length text.old + 49 ≤ 512 }
-    ensures text { text.new ≡ text.old ++ place_text origin.now place }
-    ensures fits { length text.new ≤ length text.old + 49 }
-{
-    add_coordinate(text, place.n(), origin.n);
-    text.add(b" ");
-    add_coordinate(text, place.e(), origin.e);
-}
-
-fn add_spaced_place(text: &mut Text, origin: &Origin, place: Place)
-    requires origin { IsOrigin origin.now }
-    requires room { length text.old + 50 ≤ 512 }
-    ensures text { text.new ≡ text.old ++ spaced_place origin.now place }
-    ensures fits { length text.new ≤ length text.old + 50 }
-{
-    text.add(b" ");
-    add_place(text, origin, place);
-}
-
+// The number of a new line, where the edit made one.
 fn add_line(text: &mut Text, line: Option<LineId>)
     requires { length text.old + 26 ≤ 512 }
     ensures text { text.new ≡ text.old ++ line_text line }
@@ -67,75 +31,7 @@ fn add_line(text: &mut Text, line: Option<LineId>)
     }
 }
 
-fn add_mark(text: &mut Text, origin: &Origin, mark: &Mark)
-    requires origin { IsOrigin origin.now }
-    requires room { length text.old + 150 ≤ 512 }
-    ensures text { text.new ≡ text.old ++ mark_text origin.now mark.now }
-    ensures fits { length text.new ≤ length text.old + 150 }
-{
-    match mark {
-        Mark::Point(place) => {
-            text.add(b" at");
-            add_spaced_place(text, origin, *place);
-        }
-        Mark::Tri(facet) => {
-            add_spaced_place(text, origin, facet.a);
-            add_spaced_place(text, origin, facet.b);
-            add_spaced_place(text, origin, facet.c);
-        }
-    }
-}
-
-// A word and a number.
-fn add_counted(text: &mut Text, word: &[u8], number: u32)
-    requires { length text.old + length word.now + 21 ≤ 512 }
-    ensures text { text.new ≡ text.old ++ (word.now ++ 32 ∷ decimal number) }
-    ensures fits { length text.new ≤ length text.old + length word.now + 21 }
-{
-    text.add(word);
-    text.add_number(u64::from(number));
-}
-
-// A word and two numbers.
-fn add_pair(text: &mut Text, word: &[u8], first: u32, second: u32)
-    requires { length text.old + length word.now + 42 ≤ 512 }
-    ensures text { text.new ≡ text.old ++ (word.now ++ 32 ∷ decimal first ++ 32 ∷ decimal second) }
-    ensures fits { length text.new ≤ length text.old + length word.now + 42 }
-{
-    add_counted(text, word, first);
-    text.add_number(u64::from(second));
-}
-
-fn add_reason(text: &mut Text, origin: &Origin, reason: &Refusal)
-    requires origin { IsOrigin origin.now }
-    requires room { length text.old + 60 ≤ 512 }
-    ensures text { text.new ≡ text.old ++ reason_text origin.now reason.now }
-    ensures fits { length text.new ≤ length text.old + 60 }
-{
-    match reason {
-        Refusal::Occupied(level) => {
-            text.add(b"occupied");
-            add_level(text, *level);
-        }
-        Refusal::Absent(place) => {
-            text.add(b"absent");
-            add_spaced_place(text, origin, *place);
-        }
-        Refusal::Held(id) => add_counted(text, b"held", id.0),
-        Refusal::Joint(lesser, greater) => add_pair(text, b"joint", lesser.0, greater.0),
-        Refusal::TooShort => text.add(b"short"),
-        Refusal::Repeated(place) => add_counted(text, b"repeated", *place),
-        Refusal::NotPoint(place) => add_counted(text, b"not-point", *place),
-        Refusal::Crosses(id) => add_counted(text, b"crosses", id.0),
-        Refusal::SelfCross(lesser, greater) => add_pair(text, b"self-cross", *lesser, *greater),
-        Refusal::NoLine(id) => add_counted(text, b"no-line", id.0),
-        Refusal::PointsFull => text.add(b"points-full"),
-        Refusal::LinesFull => text.add(b"lines-full"),
-        Refusal::VerticesFull => text.add(b"vertices-full"),
-        Refusal::LogFull => text.add(b"log-full"),
-    }
-}
-
+// The level at a place, or that no kept facet has it.
 fn add_level_or_outside(text: &mut Text, front: u32, level: &Option<Level>)
     requires { length text.old + 60 ≤ 512 }
     ensures text { text.new ≡ text.old ++ level_text front level.now }
@@ -150,36 +46,7 @@ fn add_level_or_outside(text: &mut Text, front: u32, level: &Option<Level>)
     }
 }
 
-fn add_volume_texts(text: &mut Text, volume: &Volume)
-    requires size { IsVolumeWithin volume.now }
-    requires room { length text.old + 147 ≤ 512 }
-    ensures text { text.new ≡ text.old ++ volume_texts volume.now }
-    ensures fits { length text.new ≤ length text.old + 147 }
-{
-    text.add_volume(volume.cut);
-    text.add_volume(volume.fill);
-    text.add_volume(volume.net);
-}
-
-fn add_sixths(text: &mut Text, volume: &Volume)
-    requires { length text.old + 130 ≤ 512 }
-    ensures text { text.new ≡ text.old ++ sixths_words volume.now }
-    ensures fits { length text.new ≤ length text.old + 130 }
-{
-    text.add(b" sixths");
-    add_wholes(text, volume);
-}
-
-fn add_wholes(text: &mut Text, volume: &Volume)
-    requires { length text.old + 123 ≤ 512 }
-    ensures text { text.new ≡ text.old ++ wholes volume.now }
-    ensures fits { length text.new ≤ length text.old + 123 }
-{
-    text.add_whole(volume.cut);
-    text.add_whole(volume.fill);
-    text.add_whole(volume.net);
-}
-
+// The numbers of points and of lines.
 fn add_stat(text: &mut Text, front: u32, points: u32, lines: u32)
     requires { length text.old + 90 ≤ 512 }
     ensures text { text.new ≡ text.old ++ stat_words front points lines }
@@ -231,7 +98,7 @@ fn first_line(reply: &Reply, origin: &Origin) -> Text
             text.add_number(*bytes);
         }
         Reply::Bye => text.add(b"bye"),
-        Reply::Syntax(place) => add_counted(&mut text, b"error syntax", *place),
+        Reply::Syntax(offset) => add_counted(&mut text, b"error syntax", *offset),
         Reply::Range => text.add(b"error range"),
         Reply::NoPlan => text.add(b"error no-plan"),
         Reply::Memory => text.add(b"error memory"),
@@ -240,27 +107,16 @@ fn first_line(reply: &Reply, origin: &Origin) -> Text
     text
 }
 
-// A further line: the ends of a cut.
-fn add_cut(text: &mut Text, origin: &Origin, cut: &Cut)
-    requires origin { IsOrigin origin.now }
-    requires room { length text.old + 100 ≤ 512 }
-    ensures text { text.new ≡ text.old ++ 10 ∷ cut_text origin.now cut.now }
-    ensures fits { length text.new ≤ length text.old + 100 }
-{
-    text.add(b"\n");
-    add_place(text, origin, cut.from);
-    add_spaced_place(text, origin, cut.to);
-}
-
 // Writes the text where it leaves no room for a further line.
 fn make_room<S: Sink>(text: &mut Text, sink: &mut S) -> Result<(), Failed>
     requires { length text.old ≤ 500 }
     ensures room { OnOk result (length text.new ≤ 400) }
     ensures bytes { Hands (S.written sink.old) (S.written sink.new) text.old text.new result }
+    ensures order { SendsFront (S.write_order sink.old) (S.write_order sink.new) text.old text.new result }
     ensures cause { HasCause (S.write_faults sink.old) (S.write_faults sink.new) result }
     ensures rest { S.beside_writes sink.new ≡ S.beside_writes sink.old }
 {
-    if text.len() <= 400 {
+    if text.len() <= FULL {
         return Ok(());
     }
     write_all(sink, text.as_bytes())?;
@@ -273,6 +129,7 @@ fn put_cuts<S: Sink>(text: Text, cuts: &[Cut], origin: &Origin, sink: &mut S) ->
     requires origin { IsOrigin origin.now }
     requires room { length text ≤ 400 }
     ensures text { WritesText (S.written sink.old) (S.written sink.new) result (text ++ lines_text (cut_text origin.now) cuts.now ++ 10 ∷ []) }
+    ensures order { SendsText (S.write_order sink.old) (S.write_order sink.new) result (text ++ lines_text (cut_text origin.now) cuts.now ++ 10 ∷ []) }
     ensures cause { HasCause (S.write_faults sink.old) (S.write_faults sink.new) result }
     ensures rest { S.beside_writes sink.new ≡ S.beside_writes sink.old }
 {
@@ -293,6 +150,7 @@ pub fn put_reply<S: Sink>(reply: &Reply, origin: &Origin, sink: &mut S) -> Resul
     requires origin { IsOrigin origin.now }
     requires volume { HasVolumeWithin reply.now }
     ensures text { WritesText (S.written sink.old) (S.written sink.new) result (reply_text origin.now reply.now) }
+    ensures order { SendsText (S.write_order sink.old) (S.write_order sink.new) result (reply_text origin.now reply.now) }
     ensures cause { HasCause (S.write_faults sink.old) (S.write_faults sink.new) result }
     ensures rest { S.beside_writes sink.new ≡ S.beside_writes sink.old }
 {

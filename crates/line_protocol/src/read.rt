@@ -7,7 +7,7 @@ ghost use Rattle.line_protocol.specs.Spoken.{AddPoint, RemovePoint, SetLevel, Re
 ghost use Rattle.line_protocol.specs.Within.{edit_within, request_within};
 ghost use Rattle.line_protocol.specs.Reading.{IsRead, has_places, takes_memory_early, Reads};
 
-use crate::fault::fault_place;
+use crate::fault::fault_offset;
 use crate::line_edit::read_line_edit;
 use crate::number::read_id;
 use crate::place::{read_level, read_place, read_spot};
@@ -21,16 +21,19 @@ use thiserror::Error;
 /// Why a line has no request.
 #[derive(Clone, Copy, Debug, PartialEq, Eq, Error)]
 pub enum LineFault {
-    /// It is no request; the number is the place of the first byte that no request allows, or the
+    /// It is no request; the number is the offset of the first byte that no request allows, or the
     /// line's length.
     #[error("no request allows the byte at {0}")]
     Syntax(u32),
+    /// A place or a level is outside its limit.
     #[error("a place or a level is outside its limit")]
     Range,
-    #[error("there is no memory for the places of the line")]
+    /// It is a new line, all of it within its limits, and its places take memory.
+    #[error("out of memory for the places of the line")]
     Memory,
 }
 
+// A place and a level, of a point to add.
 #[tactic(auto, unfolding(crate::specs::Within::edit_within))]
 fn read_addition(text: &[u8], origin: &Origin) -> Result<Edit, Unread>
     requires { IsOrigin origin.now }
@@ -42,6 +45,7 @@ fn read_addition(text: &[u8], origin: &Origin) -> Result<Edit, Unread>
     }
 }
 
+// The place of a point to remove.
 #[tactic(auto, unfolding(crate::specs::Within::edit_within))]
 fn read_removal(text: &[u8], origin: &Origin) -> Result<Edit, Unread>
     requires { IsOrigin origin.now }
@@ -53,6 +57,7 @@ fn read_removal(text: &[u8], origin: &Origin) -> Result<Edit, Unread>
     }
 }
 
+// A place and its new level.
 #[tactic(auto, unfolding(crate::specs::Within::edit_within))]
 fn read_set(text: &[u8], origin: &Origin) -> Result<Edit, Unread>
     requires { IsOrigin origin.now }
@@ -64,6 +69,7 @@ fn read_set(text: &[u8], origin: &Origin) -> Result<Edit, Unread>
     }
 }
 
+// The number of a line to take away.
 #[tactic(auto, unfolding(crate::specs::Within::edit_within))]
 fn read_line_removal(text: &[u8], origin: &Origin) -> Result<Edit, Unread>
     ensures { IsRead (option_map RemoveLine (id (words_of text.now))) (edit_within origin.now) has_places result }
@@ -77,6 +83,7 @@ fn read_line_removal(text: &[u8], origin: &Origin) -> Result<Edit, Unread>
     }
 }
 
+// An edit, by its first word.
 #[tactic(auto, unfolding(crate::specs::Grammar::edit))]
 fn read_edit(alloc: Global, text: &[u8], origin: &Origin) -> Result<Edit, Unread>
     requires { IsOrigin origin.now }
@@ -100,6 +107,7 @@ fn read_edit(alloc: Global, text: &[u8], origin: &Origin) -> Result<Edit, Unread
     }
 }
 
+// The edit of a plan.
 #[tactic(auto, unfolding(crate::specs::Within::request_within))]
 fn read_plan(alloc: Global, text: &[u8], origin: &Origin) -> Result<Request, Unread>
     requires { IsOrigin origin.now }
@@ -111,6 +119,7 @@ fn read_plan(alloc: Global, text: &[u8], origin: &Origin) -> Result<Request, Unr
     }
 }
 
+// The edit that is to be made at once.
 #[tactic(auto, unfolding(crate::specs::Within::request_within))]
 fn read_apply(alloc: Global, text: &[u8], origin: &Origin) -> Result<Request, Unread>
     requires { IsOrigin origin.now }
@@ -122,8 +131,9 @@ fn read_apply(alloc: Global, text: &[u8], origin: &Origin) -> Result<Request, Un
     }
 }
 
+// The place of which the level is asked.
 #[tactic(auto, unfolding(crate::specs::Within::request_within))]
-fn read_query(text: &[u8], origin: &Origin) -> Result<Request, Unread>
+fn read_level_request(text: &[u8], origin: &Origin) -> Result<Request, Unread>
     requires { IsOrigin origin.now }
     ensures { IsRead (option_map Level (place (words_of text.now))) (request_within origin.now) takes_memory_early result }
 {
@@ -133,6 +143,7 @@ fn read_query(text: &[u8], origin: &Origin) -> Result<Request, Unread>
     }
 }
 
+// The level of a contour.
 #[tactic(auto, unfolding(crate::specs::Within::request_within))]
 fn read_contour(text: &[u8], origin: &Origin) -> Result<Request, Unread>
     ensures { IsRead (option_map Contour (level (words_of text.now))) (request_within origin.now) takes_memory_early result }
@@ -143,6 +154,7 @@ fn read_contour(text: &[u8], origin: &Origin) -> Result<Request, Unread>
     }
 }
 
+// The level to which a volume is asked.
 #[tactic(auto, unfolding(crate::specs::Within::request_within))]
 fn read_volume(text: &[u8], origin: &Origin) -> Result<Request, Unread>
     ensures { IsRead (option_map Volume (level (words_of text.now))) (request_within origin.now) takes_memory_early result }
@@ -164,7 +176,7 @@ fn read_phrase(alloc: Global, word: &[u8], rest: &[u8], origin: &Origin) -> Resu
     } else if word == b"do".as_slice() {
         read_apply(alloc, rest, origin)
     } else if word == b"level".as_slice() {
-        read_query(rest, origin)
+        read_level_request(rest, origin)
     } else if word == b"contour".as_slice() {
         read_contour(rest, origin)
     } else if word == b"volume".as_slice() {
@@ -194,6 +206,7 @@ fn read_single(word: &[u8], origin: &Origin) -> Result<Request, Unread>
     }
 }
 
+// A request, by its first word and whether more follow.
 #[tactic(auto, unfolding(crate::specs::Grammar::spoken))]
 fn read_words(alloc: Global, line: &[u8], origin: &Origin) -> Result<Request, Unread>
     requires { IsOrigin origin.now }
@@ -205,17 +218,17 @@ fn read_words(alloc: Global, line: &[u8], origin: &Origin) -> Result<Request, Un
     }
 }
 
-/// The request of a line, whose end was taken off. Each byte is looked at a bounded number of times. Only
-/// the places of a new line take memory; `Memory` comes for no other request, and never in place of
-/// `Syntax`.
+/// The request of a line, whose end was taken off. Each byte is looked at a bounded number of times.
+/// Only the places of a new line take memory, once the whole line was found to be within its limits:
+/// `Memory` comes for no other request, and never instead of `Syntax` or `Range`.
 pub fn read_request(alloc: Global, line: &[u8], origin: &Origin) -> Result<Request, LineFault>
     requires length { length line.now < 2 ^ 32 }
     requires origin { IsOrigin origin.now }
-    ensures { Reads origin.now line.now result }
+    ensures reads { Reads origin.now line.now result }
 {
     match read_words(alloc, line, origin) {
         Ok(request) => Ok(request),
-        Err(Unread::NoSuch) => Err(LineFault::Syntax(fault_place(line) as u32)),
+        Err(Unread::NoSuch) => Err(LineFault::Syntax(fault_offset(line) as u32)),
         Err(Unread::Outside) => Err(LineFault::Range),
         Err(Unread::NoRoom) => Err(LineFault::Memory),
     }

@@ -14,22 +14,27 @@ pub enum Reply {
     Done(u32, Option<LineId>),
     /// This mark of the plan has changed.
     Conflict(u32, Mark),
+    /// An edit was refused, by its first cause.
     Refused(u32, Refusal),
     /// The level at a place. None outside the kept facets.
     Level(u32, Option<Level>),
+    /// The cuts of the kept facets at a level.
     Contour(u32, Cuts),
+    /// The volumes above and below a level.
     Volume(u32, Volume),
     /// The numbers of points and of live lines.
     Stat(u32, u32, u32),
     /// The document follows, of so many bytes.
     Export(u32, u64),
+    /// The session ends.
     Bye,
-    /// The line is no request; the number is the place of the first byte that no request allows.
+    /// The line is no request; the number is the offset of the first byte that no request allows.
     Syntax(u32),
     /// A place or a level is outside its limit.
     Range,
-    /// A commit without a plan.
+    /// A commit came without a plan.
     NoPlan,
+    /// Out of memory for the request.
     Memory,
     /// The request is none that this program answers.
     Unbuilt,

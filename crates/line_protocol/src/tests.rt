@@ -4,7 +4,7 @@ use crate::read::{LineFault, read_request};
 use ground_num::{Origin, Thousandths};
 use std::test::Fail;
 
-// A line a row, and behind the bar `ok`, `range` or its fault place: each request; each word cut
+// A line a row, and after the bar `ok`, `range` or its fault offset: each request; each word cut
 // short; other words; too few numbers and too many; signs, digits and points; spaces and other
 // bytes that part nothing; and what is outside its limit.
 const LINES: &str = "\
@@ -125,7 +125,7 @@ plan remove 999999999 0|range
 do line break 0 0 999999999 0|range";
 
 #[test]
-fn lines_are_read_or_refused_at_their_fault_place(rt: HostRuntime) -> Result<(), Fail> {
+fn lines_are_read_or_refused_at_their_fault_offset(rt: HostRuntime) -> Result<(), Fail> {
     let origin = Origin {
         n: Thousandths(0),
         e: Thousandths(0),
@@ -142,5 +142,20 @@ fn lines_are_read_or_refused_at_their_fault_place(rt: HostRuntime) -> Result<(),
             assert_eq!(rt; fault, Some(LineFault::Syntax(said.parse()?)), "at {line}");
         }
     }
+    Ok(())
+}
+
+#[test]
+fn line_of_a_thousand_places_is_read(rt: HostRuntime) -> Result<(), Fail> {
+    let origin = Origin {
+        n: Thousandths(0),
+        e: Thousandths(0),
+    };
+    let mut line = "do line break".to_string(rt.alloc())?;
+    for _k in 0..1_000u32 {
+        line.push_str(" 0 0")?;
+    }
+    assert!(rt; line.len() < 1 << 32);
+    assert!(rt; read_request(rt.alloc(), line.as_bytes(), &origin).is_ok());
     Ok(())
 }

@@ -8,10 +8,13 @@ use ground_num::{Thousandths, put_decimal, put_volume};
 use itoa::Buffer;
 use std::marker::Model;
 
-/// A text of at most 512 bytes, seen as its bytes.
+/// The most bytes that a text has: more than the longest reply of one line.
+const ROOM: usize = 512;
+
+/// A text of at most `ROOM` bytes, seen as its bytes.
 #[derive(Drop)]
 pub(crate) struct Text {
-    bytes: [u8; 512],
+    bytes: [u8; ROOM],
     used: usize,
 }
 
@@ -26,15 +29,17 @@ impl Model for Text {
 }
 
 impl Text {
+    /// The text of no byte.
     pub(crate) fn new() -> Self
         ensures { result ≡ [] }
     {
         Text {
-            bytes: [0; 512],
+            bytes: [0; ROOM],
             used: 0,
         }
     }
 
+    /// How many bytes it has.
     pub(crate) fn len(&self) -> usize
         ensures value { result ≡ length self.now }
         ensures fits { result ≤ 512 }
@@ -42,12 +47,14 @@ impl Text {
         self.used
     }
 
+    /// Takes all its bytes away.
     pub(crate) fn clear(&mut self)
         ensures { self.new ≡ [] }
     {
         self.used = 0;
     }
 
+    /// Adds the piece at the end.
     pub(crate) fn add(&mut self, piece: &[u8])
         requires { length self.old + length piece.now ≤ 512 }
         ensures { self.new ≡ self.old ++ piece.now }
@@ -57,7 +64,7 @@ impl Text {
         self.used = end;
     }
 
-    /// A space and the number.
+    /// Adds a space and the number.
     pub(crate) fn add_number(&mut self, number: u64)
         requires { length self.old + 21 ≤ 512 }
         ensures text { self.new ≡ self.old ++ 32 ∷ decimal number }
@@ -68,7 +75,7 @@ impl Text {
         self.add(buffer.format(number).as_bytes());
     }
 
-    /// A space and the whole number.
+    /// Adds a space and the signed number.
     pub(crate) fn add_whole(&mut self, number: i128)
         requires { length self.old + 41 ≤ 512 }
         ensures text { self.new ≡ self.old ++ 32 ∷ signed_decimal number }
@@ -79,7 +86,7 @@ impl Text {
         self.add(buffer.format(number).as_bytes());
     }
 
-    /// The number of thousandths.
+    /// Adds the number of thousandths.
     pub(crate) fn add_thousandths(&mut self, value: i64)
         requires { length self.old + 24 ≤ 512 }
         ensures text { self.new ≡ self.old ++ thousandths_text value }
@@ -90,7 +97,7 @@ impl Text {
         self.add(&decimal[..len]);
     }
 
-    /// A space and the volume.
+    /// Adds a space and the volume, in cubic units.
     pub(crate) fn add_volume(&mut self, sixths: i128)
         requires size { unsigned_abs sixths ≤ 2 ^ 120 }
         requires room { length self.old + 49 ≤ 512 }
@@ -103,6 +110,7 @@ impl Text {
         self.add(&volume[..len]);
     }
 
+    /// Its bytes.
     pub(crate) fn as_bytes(&self) -> &[u8]
         ensures { result.now ≡ self.now }
     {

@@ -11,23 +11,23 @@ pub(crate) enum Unread {
     NoSuch,
     /// A place or a level is outside its limit.
     Outside,
-    /// There is no memory for its places.
+    /// Out of memory for its places.
     NoRoom,
 }
 
-/// Where the byte first stands.
-pub(crate) fn place_of_byte(byte: u8, text: &[u8]) -> Option<usize>
+/// The offset at which the byte first stands.
+pub(crate) fn offset_of_byte(byte: u8, text: &[u8]) -> Option<usize>
     ensures { result ≡ position (λ b. b == byte) text.now }
 {
     text.iter().position(|b| *b == byte)
 }
 
-/// The first word, and what comes behind its space. None where there is no space.
+/// The first word, and what comes after its space. None where there is no space.
 pub(crate) fn first_word(text: &[u8]) -> Option<(&[u8], &[u8])>
     ensures words { MatchOption result (words_of text.now ≡ text.now ∷ []) (λ parts. words_of text.now ≡ parts.0.now ∷ words_of parts.1.now) }
     ensures shorter { IfSome result (λ parts. length parts.1.now < length text.now) }
 {
-    match place_of_byte(b' ', text) {
+    match offset_of_byte(b' ', text) {
         Some(at) => Some((&text[..at], &text[at + 1..])),
         None => None,
     }

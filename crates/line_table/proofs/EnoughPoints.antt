@@ -8,10 +8,10 @@ use Rattle.ground_model.specs.declared.piece.Piece.{Piece}
 use Rattle.ground_model.specs.Place.{Coords, place_cmp, is_before}
 use Rattle.ground_model.specs.Side.{is_on_segment}
 use Rattle.ground_model.specs.Line.{Line, Segment, links, has_piece, is_point}
-use Rattle.line_table.specs.Table.{count_on, counted_pieces}
+use Rattle.ground_model.specs.Table.{count_on, counted_pieces}
 use Rattle.line_table.specs.Along.{is_on_links, AreEnoughAlong}
-use Rattle.line_table.proofs.Elements.{In, both_true, any_from, none_at, none_from, of_filter, each_at}
-use Rattle.line_table.proofs.LinePieces.{in_points, is_point_in, IsPiece, piece_of, has_piece_from}
+use Rattle.ground_model.proofs.Elements.{In, both_true, any_from, none_at, none_from, of_filter, each_at}
+use Rattle.ground_model.proofs.LinePieces.{in_points, is_point_in, IsPiece, piece_of, has_piece_from}
 use Rattle.line_table.proofs.NextPoints.{inside_on}
 use Rattle.line_table.proofs.Rows.{piece_at, line_row, filter-alike, map-alike, none_kept, kept_ends, counted_over, line_rows}
 
@@ -81,7 +81,7 @@ module _ (all points : List Coords) (line : Line) (enough : AreEnoughAlong all p
           let on = and_parts (is_on_segment p q r) (is_before p r) front.0 in
           both_ways _ (none_at (λ r. is_on_segment p q r && is_before p r && is_before r q) points r h.clear (on_link h.link h.of r i (inside_on h.link.0 h.link.1 p q r h.first_on h.last_on on.0))) e
 
-  -- the points on its links tell each piece of the line
+  -- the points on its links show each piece of the line
   pub has_piece-enough : (p q : Coords) → has_piece all line p q ≡ has_piece points line p q
   has_piece-enough p q = both_true _ _
       (λ h. has_piece_from points line p q (fewer p q (piece_of all line p q h)))
@@ -129,7 +129,7 @@ module _ (all points : List Coords) (line : Line) (enough : AreEnoughAlong all p
 pub counted_pieces-enough : (all points : List Coords) (lines : List Line) (line : Line) → IsStrictlySortedBy place_cmp all → IsStrictlySortedBy place_cmp points → AreEnoughAlong all points line → counted_pieces points lines line ≡ counted_pieces all lines line
 counted_pieces-enough all points lines line sorted ordered enough = pieces-enough all points line enough sorted ordered lines
 
--- the same of a line that may be live
+-- the pieces of a line that may be live, from enough points
 pub found-enough : (o : Option Line) (found : List Piece) (all points : List Coords) (lines : List Line) → IsStrictlySortedBy place_cmp all → IsStrictlySortedBy place_cmp points
     → IfSome o (λ line. found ≡ counted_pieces points lines line) → IfSome o (λ line. AreEnoughAlong all points line → found ≡ counted_pieces all lines line)
 found-enough None found all points lines sorted ordered h = h

@@ -8,11 +8,10 @@ use Rattle.ground_model.specs.declared.line.LineId.{LineId}
 use Rattle.ground_model.specs.Place.{Coords}
 use Rattle.ground_model.specs.Side.{crosses, is_on_segment}
 use Rattle.ground_model.specs.Line.{Line, Segment, links}
-use Rattle.ground_model.specs.Refusal.{lines_cross, least_pair}
-use Rattle.line_table.specs.Table.{Table, live, least_where, joint_in}
-use Rattle.line_table.specs.Crossings.{piece_crosses, link_crosses, links_cross, is_on_points, AreEnough, AreWithout}
+use Rattle.ground_model.specs.Crossings.{lines_cross, least_pair, joint, piece_crosses, link_crosses, links_cross, is_on_points, AreWithout}
+use Rattle.ground_model.specs.Table.{Table, live, least_where}
 use Rattle.line_table.specs.Joints.{cross_over, links_cross_over}
-use Rattle.line_table.proofs.Crossings.{lines_cross-links, crossed-enough, joint-through}
+use Rattle.ground_model.proofs.Crossings.{lines_cross-links, piece_crosses-links, joint-through}
 use Rattle.line_table.proofs.Searches.{found-alike, found-none, all-always, all-of_map, first_pair, pairs-first, first_pair-alike, first_pair-some, first_pair-none, first_pair-nil}
 
 -- ---- the least line
@@ -20,9 +19,9 @@ use Rattle.line_table.proofs.Searches.{found-alike, found-none, all-always, all-
 least-alike : (f g : Line → Bool) (t : Table) → All (λ line. f line ≡ g line) (live t) → least_where f t ≡ least_where g t
 least-alike f g t h = ap (option_map (λ (entry : ℕ × Line). entry.0)) (found-alike (λ (entry : ℕ × Line). f entry.1) (λ entry. g entry.1) (finmap.entries t.lines) (all-of_map (λ line. f line ≡ g line) (λ (entry : ℕ × Line). entry.1) (finmap.entries t.lines) h))
 
-pub least_crossing : (all points : List Coords) (s : Segment) (t : Table) → AreEnough all points s → All (λ line. IsTrue (is_on_points all line)) (live t) → least_where (link_crosses points s) t ≡ least_where (piece_crosses all s) t
-least_crossing all points s t enough on =
-    least-alike (link_crosses points s) (piece_crosses all s) t (All-weaker (λ line. IsTrue (is_on_points all line)) (λ line. link_crosses points s line ≡ piece_crosses all s line) (λ line h. sym (crossed-enough all points s line enough h)) (live t) on)
+pub least_crossing : (points : List Coords) (s : Segment) (t : Table) → All (λ line. IsTrue (is_on_points points line)) (live t) → least_where (link_crosses points s) t ≡ least_where (piece_crosses points s) t
+least_crossing points s t on =
+    least-alike (link_crosses points s) (piece_crosses points s) t (All-weaker (λ line. IsTrue (is_on_points points line)) (λ line. link_crosses points s line ≡ piece_crosses points s line) (λ line h. sym (piece_crosses-links points s line h)) (live t) on)
 
 pub least_crossed : (points : List Coords) (line : Line) (t : Table) → IsTrue (is_on_points points line) → All (λ other. IsTrue (is_on_points points other)) (live t) → least_where (links_cross points line) t ≡ least_where (lines_cross points line) t
 least_crossed points line t own on =
@@ -64,8 +63,8 @@ abbrev pub joined : Coords → ℕ × Line → ℕ × Line → Bool
 joined p l m = nat_le l.0 m.0 && links_cross_over p l.1 m.1
 
 pub least_joint : (rest points : List Coords) (p : Coords) (t : Table) → AreWithout rest points p → All (λ l. All (λ m. lines_cross points l m ≡ false) (live t)) (live t) → All (λ line. IsTrue (is_on_points rest line)) (live t)
-    → least_pair (λ l m. nat_le l.0 m.0 && links_cross_over p l.1 m.1) (finmap.entries t.lines) ≡ joint_in rest t
-unfolding links_cross_over
+    → least_pair (λ l m. nat_le l.0 m.0 && links_cross_over p l.1 m.1) (finmap.entries t.lines) ≡ joint rest t
+unfolding links_cross_over joint
 least_joint rest points p t without apart on =
     ap (option_map (λ (found : (ℕ × Line) × (ℕ × Line)). (found.0.0, found.1.0)))
     (pairs-first by_links es es ∙ first_pair-alike by_links by_pieces es es each ∙ sym (pairs-first by_pieces es es))

@@ -5,12 +5,4 @@ pub mod Joined
 pub mod SelfCrossings
 pub mod NextPoints
 pub mod Rows
-pub mod Along
-pub mod Segments
-pub mod Parts
-pub mod Elements
-pub mod LinePieces
 pub mod EnoughPoints
-pub mod Crossings
-pub mod Causes
-pub mod Planar

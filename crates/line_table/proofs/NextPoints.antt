@@ -12,11 +12,11 @@ use Rattle.ground_model.specs.Side.{side, orientation, is_on_segment}
 use Rattle.ground_model.specs.Line.{Line, Segment, links, has_piece}
 use Rattle.ground_model.proofs.Ties.{same_of_is_same}
 use Rattle.line_table.specs.Ends.{goes_on, next_on, next_points}
-use Rattle.line_table.proofs.Along.{mean_of_on, collinear_of_on, same_place}
-use Rattle.line_table.proofs.Segments.{not_after, before_trans, on_of_mean}
-use Rattle.line_table.proofs.Parts.{collinear_between, mean_inside}
-use Rattle.line_table.proofs.Elements.{In, both_true, any_gives, any_from, none_at, none_from}
-use Rattle.line_table.proofs.LinePieces.{is_same_itself, IsPiece, piece_of, has_piece_from}
+use Rattle.ground_model.proofs.Along.{mean_of_on, collinear_of_on, same_place}
+use Rattle.ground_model.proofs.Segments.{not_after, before_trans, on_of_mean}
+use Rattle.ground_model.proofs.Parts.{collinear_between, mean_inside}
+use Rattle.ground_model.proofs.Elements.{In, both_true, any_gives, any_from, none_at, none_from}
+use Rattle.ground_model.proofs.LinePieces.{is_same_itself, IsPiece, piece_of, has_piece_from}
 
 -- ---- points in order
 
@@ -254,7 +254,7 @@ next_later later p line q h =
         by_test true e rest = inl (sym (some_of y x e))
         by_test false e rest = inr (rest e)
 
--- ---- two lists in order with the same elements
+-- ---- two lists in order with equal elements
 
 pub is_first : (x : Coords) (xs : List Coords) → IsStrictlySortedBy place_cmp (x ∷ xs) → (q : Coords) → In q xs → is_before x q ≡ true
 is_first x xs h q i = before_rest x xs h q i

@@ -16,14 +16,14 @@ use Rattle.ground_model.specs.declared.piece.Piece.{Piece}
 use Rattle.ground_model.specs.Place.{Coords, place_cmp, is_before, is_same}
 use Rattle.ground_model.specs.Side.{is_on_segment}
 use Rattle.ground_model.specs.Line.{Line, links, has_piece, is_point, is_clear, pieces_of}
-use Rattle.line_table.specs.Table.{count_on, pieces_on_all, counted_pieces}
+use Rattle.ground_model.specs.Table.{count_on, pieces_on, counted_pieces}
 use Rattle.line_table.specs.Ends.{next_points, spans, count_over, AreEnds}
 use Rattle.ground_model.proofs.Contents.{places_total}
 use Rattle.ground_model.proofs.Ties.{same_of_is_same}
-use Rattle.line_table.proofs.Along.{same_place}
-use Rattle.line_table.proofs.Elements.{In, both_true, any_gives, any_agrees, none_from, some_counted}
-use Rattle.line_table.proofs.LinePieces.{is_same_itself, is_point_in}
-use Rattle.line_table.proofs.Segments.{before_trans}
+use Rattle.ground_model.proofs.Along.{same_place}
+use Rattle.ground_model.proofs.Elements.{In, both_true, any_gives, any_agrees, none_from, some_counted}
+use Rattle.ground_model.proofs.LinePieces.{is_same_itself, is_point_in}
+use Rattle.ground_model.proofs.Segments.{before_trans}
 use Rattle.line_table.proofs.NextPoints.{split_of, piece_next, next_later, earlier_before, not_itself, is_first, in_order_after}
 
 -- the piece from p to q with its count
@@ -196,8 +196,8 @@ mapped f g (x ∷ xs) ys =
     ∙ map-append g (filter f (map (λ y. (x, y)) ys)) (filter f (flat_map (λ x. map (λ y. (x, y)) ys) xs))
     ∙ (λ i. (ap (map g) (filter-map f (λ y. (x, y)) ys) ∙ map-map g (λ y. (x, y)) (filter (λ y. f (x, y)) ys)) i ++ mapped f g xs ys i)
 
-pub all_rows : (points : List Coords) (lines : List Line) → flat_map (all_row points lines) points ≡ pieces_on_all points lines
-unfolding all_row pieces_on_all
+pub all_rows : (points : List Coords) (lines : List Line) → flat_map (all_row points lines) points ≡ pieces_on points lines
+unfolding all_row pieces_on
 all_rows points lines = sym (filtered (λ (x : Piece). nat_lt 0 x.count) (λ pair. piece_at points lines pair.0 pair.1) points points)
 
 pub line_rows : (points : List Coords) (lines : List Line) (line : Line) → flat_map (line_row points lines line) points ≡ counted_pieces points lines line

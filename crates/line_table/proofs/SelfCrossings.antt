@@ -8,10 +8,10 @@ use Rattle.std.proofs.lemmas.List.Folds.{find-append, list_all-append}
 use Rattle.std.proofs.lemmas.List.Elements.{All-head, All-tail, All-cons, All-nil}
 use Rattle.std.proofs.lemmas.Slice.Zip.{length-zip}
 use Rattle.ground_model.specs.Place.{Coords}
-use Rattle.ground_model.specs.Line.{Line, Segment, links, is_point, is_ring}
-use Rattle.ground_model.specs.Refusal.{any_cross, pieces_on, self_cross}
-use Rattle.line_table.specs.Crossings.{cross_between, is_on_points}
-use Rattle.line_table.proofs.Crossings.{pieces_on-links}
+use Rattle.ground_model.specs.Line.{Line, Segment, links, is_point}
+use Rattle.ground_model.specs.Kind.{is_ring}
+use Rattle.ground_model.specs.Crossings.{any_cross, pieces_on_link, self_cross, cross_between, is_on_points}
+use Rattle.ground_model.proofs.Crossings.{pieces_on_link-links}
 use Rattle.line_table.proofs.Searches.{first_pair, pairs-first}
 
 -- the numbers of the first of the links that crosses a later one, and of that, where the first link has the number n
@@ -73,12 +73,12 @@ links_end points line h =
 -- ---- the search
 
 abbrev passes : List Coords → ℕ × Segment → ℕ × Segment → Bool
-passes points l m = nat_lt l.0 m.0 && any_cross (pieces_on points l.1) (pieces_on points m.1)
+passes points l m = nat_lt l.0 m.0 && any_cross (pieces_on_link points l.1) (pieces_on_link points m.1)
 
 -- no earlier link counts, and not the link itself
 earlier : (points : List Coords) (n k : ℕ) (s : Segment) (ts : List Segment) → k + length ts ≤ n + 1 → find (passes points (n, s)) (enumerate_from k ts) ≡ None
 earlier points n k s [] h = refl
-earlier points n k s (t ∷ ts) h = ap (λ b. cond (b && any_cross (pieces_on points s) (pieces_on points t)) (Some (k, t)) (find (passes points (n, s)) (enumerate_from (k + 1) ts))) (le-ltb n k (omega arith)) ∙ earlier points n (k + 1) s ts (omega arith)
+earlier points n k s (t ∷ ts) h = ap (λ b. cond (b && any_cross (pieces_on_link points s) (pieces_on_link points t)) (Some (k, t)) (find (passes points (n, s)) (enumerate_from (k + 1) ts))) (le-ltb n k (omega arith)) ∙ earlier points n (k + 1) s ts (omega arith)
 
 later : (points : List Coords) (n k : ℕ) (s : Segment) (ts : List Segment) → n < k → HasEnds points s → All (HasEnds points) ts → option_map {U = ℕ × ℕ} (λ (m : ℕ × Segment). (n, m.0)) (find (passes points (n, s)) (enumerate_from k ts)) ≡ option_map {U = ℕ × ℕ} (λ m. (n, m)) (position_from (cross_between points s) k ts)
 later points n k s [] h own ends = refl
@@ -86,8 +86,8 @@ later points n k s (t ∷ ts) h own ends =
     ap (λ b. option_map {U = ℕ × ℕ} (λ (m : ℕ × Segment). (n, m.0)) (cond b (Some (k, t)) (find (passes points (n, s)) (enumerate_from (k + 1) ts)))) (test (All-head (HasEnds points) t ts ends))
     ∙ at (cross_between points s t) (later points n (k + 1) s ts (omega arith) own (All-tail (HasEnds points) t ts ends))
   where
-    test : HasEnds points t → (nat_lt n k && any_cross (pieces_on points s) (pieces_on points t)) ≡ cross_between points s t
-    test e = ap (λ b. b && any_cross (pieces_on points s) (pieces_on points t)) (lt-ltb n k h) ∙ pieces_on-links points s t own.0 own.1 e.0 e.1
+    test : HasEnds points t → (nat_lt n k && any_cross (pieces_on_link points s) (pieces_on_link points t)) ≡ cross_between points s t
+    test e = ap (λ b. b && any_cross (pieces_on_link points s) (pieces_on_link points t)) (lt-ltb n k h) ∙ pieces_on_link-links points s t own.0 own.1 e.0 e.1
 
     at : (b : Bool) → option_map {U = ℕ × ℕ} (λ (m : ℕ × Segment). (n, m.0)) (find (passes points (n, s)) (enumerate_from (k + 1) ts)) ≡ option_map {U = ℕ × ℕ} (λ m. (n, m)) (position_from (cross_between points s) (k + 1) ts)
         → option_map {U = ℕ × ℕ} (λ (m : ℕ × Segment). (n, m.0)) (cond b (Some (k, t)) (find (passes points (n, s)) (enumerate_from (k + 1) ts))) ≡ option_map {U = ℕ × ℕ} (λ m. (n, m)) (cond b (Some k) (position_from (cross_between points s) (k + 1) ts))

@@ -16,7 +16,8 @@ use Rattle.std.proofs.lemmas.List.Sums.{sum_by-cons, sum_by_push, sum_by-le}
 use Rattle.ground_model.specs.declared.line.LineKind.{LineKind}
 use Rattle.ground_model.specs.Place.{Coords}
 use Rattle.ground_model.specs.Line.{Line}
-use Rattle.line_table.specs.Table.{Table, IsSound, no_lines}
+use Rattle.ground_model.specs.Table.{Table, no_lines}
+use Rattle.line_table.specs.Sound.{IsSound}
 use Rattle.line_table.proofs.Maps as maps
 
 Entries : Type 0

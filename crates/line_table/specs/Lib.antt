@@ -1,7 +1,4 @@
-pub mod Table
-pub mod Codes
-pub mod Crossings
+pub mod Sound
 pub mod Along
 pub mod Joints
 pub mod Ends
-pub mod Planar

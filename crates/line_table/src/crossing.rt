@@ -1,15 +1,14 @@
 //! Where lines cross, and which line holds a place.
 
-ghost use Rattle.std.specs.Prelude.{◌≡◌, ◌+◌, ◌^◌, ◌<◌, ◌≤◌, ◌&&◌, IfOk, IfSome, option_map, List, false, IsTrue, nat_le, length};
+ghost use Rattle.std.specs.Prelude.{◌≡◌, ◌+◌, ◌^◌, ◌<◌, ◌≤◌, ◌&&◌, IfOk, IfSome, IsOk, option_map, List, false, IsTrue, nat_le, length};
 ghost use Rattle.std.specs.List.{All, list_any, find, position_from};
 ghost use Rattle.std.specs.FinMap as finmap;
 ghost use Rattle.ground_model.specs.Place.{Coords};
 ghost use Rattle.ground_model.specs.Side.{is_on_segment};
-ghost use Rattle.ground_model.specs.Line.{links as links_of};
-ghost use Rattle.ground_model.specs.Refusal.{least_pair, lines_cross, self_cross as self_cross_of};
-ghost use Rattle.line_table.specs.Table.{has_place as has_place_of, least_where, live, joint_in};
-ghost use Rattle.line_table.specs.Crossings.{AreEnough, AreWithout, is_on_points, piece_crosses, cross_between, link_crosses, links_cross};
-ghost use Rattle.line_table.specs.Joints.{cross_over, links_cross_over};
+ghost use Rattle.ground_model.specs.Line.{links as links_of, has_place as has_place_of};
+ghost use Rattle.ground_model.specs.Crossings.{lines_cross, self_cross as self_cross_of, joint, AreWithout, is_on_points, piece_crosses, cross_between, link_crosses, links_cross};
+ghost use Rattle.ground_model.specs.Table.{least_where, live};
+ghost use Rattle.line_table.specs.Joints.{cross_over, links_cross_over, pair_over};
 
 use crate::line::Line;
 use crate::lines::Lines;
@@ -32,19 +31,18 @@ impl Lines {
         self.iter().find(|(_, line)| line.has_place(place))
     }
 
-    /// The least line with a piece that crosses the segment pq, None exactly where none does. Of
-    /// the points those on pq are enough. It takes no memory, and looks at the points only where
-    /// a link crosses the segment: its cost is that of the links of all lines up to the one found.
+    /// The least line with a piece that crosses the segment pq, None exactly where none does. It
+    /// takes no memory and never fails. Its cost is that of the links of all lines up to the one
+    /// found, and of the points once for each link that crosses the segment.
     pub fn crossing(
         &self,
         p: Place,
         q: Place,
         points: &[Place],
     ) -> Result<Option<LineId>, AllocError>
-        ensures { (all : List Coords)
-            → AreEnough all points.now (p, q)
-            → All (λ line. IsTrue (is_on_points all line)) (live self.now)
-            → IfOk result (λ found. option_map (λ id. id.0) found ≡ least_where (piece_crosses all (p, q)) self.now) }
+        requires { All (λ line. IsTrue (is_on_points points.now line)) (live self.now) }
+        ensures found { IfOk result (λ found. option_map (λ id. id.0) found ≡ least_where (piece_crosses points.now (p, q)) self.now) }
+        ensures answers { IsOk result }
     {
         Ok(number_of(self.entry_crossing(&(p, q), points)))
     }
@@ -74,20 +72,24 @@ impl Lines {
     }
 
     /// The least pair of lines of which pieces would cross without the point at this place, the
-    /// lesser number first. A line may pair with itself. Only a line with a link over the place
-    /// is tried with the others.
+    /// lesser number first. A line may pair with itself. Of every table it is the least pair with
+    /// links that cross and both hold the place. That these are the pieces that would cross holds
+    /// for the points of a surface that lawful edits made (`ground_model::planar_law`), where no
+    /// two pieces cross, and for a point that no line has as a place. Only a line with a link over
+    /// the place is tried with the others.
     pub fn joint(&self, place: Place) -> Option<(LineId, LineId)>
-        ensures { (points rest : List Coords)
+        ensures links { option_map (λ pair. (pair.0.0, pair.1.0)) result ≡ pair_over place self.now }
+        ensures pieces { (points rest : List Coords)
             → AreWithout rest points place
             → All (λ l. All (λ m. lines_cross points l m ≡ false) (live self.now)) (live self.now)
             → All (λ line. IsTrue (is_on_points rest line)) (live self.now)
-            → option_map (λ pair. (pair.0.0, pair.1.0)) result ≡ joint_in rest self.now }
+            → option_map (λ pair. (pair.0.0, pair.1.0)) result ≡ joint rest self.now }
     {
         self.joint_links(place)
     }
 
     fn joint_links(&self, place: Place) -> Option<(LineId, LineId)>
-        ensures { option_map (λ pair. (pair.0.0, pair.1.0)) result ≡ least_pair (λ l m. nat_le l.0 m.0 && links_cross_over place l.1 m.1) (finmap.entries self.now.lines) }
+        ensures { option_map (λ pair. (pair.0.0, pair.1.0)) result ≡ pair_over place self.now }
     {
         for (id, line) in self.iter() {
             if let Some(partner) = self.partner(id, line, place) {
@@ -97,7 +99,7 @@ impl Lines {
         None
     }
 
-    /// The least line from this one on, with a link that crosses one of this line over the place.
+    // The least line from this one on, with a link that crosses one of this line over the place.
     fn partner(&self, id: LineId, line: &Line, place: Place) -> Option<LineId>
         ensures { option_map (λ id. id.0) result ≡ option_map (λ entry. entry.0) (find (λ entry. nat_le id.0 entry.0 && links_cross_over place line.now entry.1) (finmap.entries self.now.lines)) }
     {
@@ -134,8 +136,8 @@ pub fn self_cross(line: &Line, points: &[Place]) -> Option<(u32, u32)>
     None
 }
 
-/// The number of the first link that crosses this one, where the first of them has the number
-/// `first`.
+// The number of the first link that crosses this one, where the first of them has the number
+// `first`.
 fn first_crossing(points: &[Place], s: &Link, links: Links<'_>, first: usize) -> Option<usize>
     requires { first + length links ≤ 2 ^ 32 }
     ensures value { result ≡ position_from (cross_between points.now s.now) first links.entry }
@@ -160,7 +162,7 @@ fn number_of(entry: Option<(LineId, &Line)>) -> Option<LineId>
     }
 }
 
-#[tactic(auto, unfolding(crate::specs::Crossings::link_crosses))]
+#[tactic(auto, unfolding(ground_model::specs::Crossings::link_crosses))]
 fn has_crossing_link(points: &[Place], s: &Link, line: &Line) -> bool
     ensures { result ≡ link_crosses points.now s.now line.now }
 {
@@ -173,7 +175,7 @@ fn crosses_any(points: &[Place], s: &Link, mut links: Links<'_>) -> bool
     links.any(|link| cross_apart(points, s, &link))
 }
 
-#[tactic(auto, unfolding(crate::specs::Crossings::links_cross))]
+#[tactic(auto, unfolding(ground_model::specs::Crossings::links_cross))]
 fn have_crossing_links(points: &[Place], l: &Line, m: &Line) -> bool
     ensures { result ≡ links_cross points.now l.now m.now }
 {
@@ -186,7 +188,7 @@ fn any_crosses(points: &[Place], mut links: Links<'_>, line: &Line) -> bool
     links.any(|link| has_crossing_link(points, &link, line))
 }
 
-/// Whether a link of the line holds the place.
+// Whether a link of the line holds the place.
 fn has_link_over(line: &Line, place: Place) -> bool
     ensures { result ≡ list_any (λ link. is_on_segment link.0 link.1 place) (links_of line.now) }
 {

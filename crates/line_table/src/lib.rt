@@ -3,7 +3,6 @@
 #![tactic(auto)]
 
 mod crossing;
-mod laws;
 mod line;
 mod lines;
 mod links;
@@ -12,7 +11,6 @@ mod pieces;
 mod segment;
 
 pub use crossing::self_cross;
-pub use laws::planar_law;
 pub use line::Line;
 pub use lines::Lines;
 pub use links::Links;

@@ -1,8 +1,7 @@
 //! A line and its links.
 
 ghost use Rattle.std.specs.Prelude.{◌≡◌};
-ghost use Rattle.ground_model.specs.Line.{is_ring as is_ring_of, links as links_of};
-ghost use Rattle.line_table.specs.Table.{has_place as has_place_of};
+ghost use Rattle.ground_model.specs.Line.{links as links_of, has_place as has_place_of};
 
 use crate::links::Links;
 use ground_model::{LineKind, Place, Places};
@@ -31,12 +30,14 @@ impl Line {
         Line { kind, places }
     }
 
+    /// Breakline, outer, void or island.
     pub fn kind(&self) -> LineKind
         ensures { result ≡ self.now.kind }
     {
         self.kind
     }
 
+    /// The places in order; a ring does not repeat its first one.
     pub fn places(&self) -> &Places
         ensures { result.now ≡ self.now.places }
     {
@@ -57,7 +58,7 @@ impl Line {
         ensures { result ≡ links_of self.now }
     {
         let places = self.places.as_slice();
-        if is_ring(self.kind) {
+        if self.kind.is_ring() {
             Links::new(places, places.first().copied())
         } else {
             Links::new(places, None)
@@ -69,14 +70,5 @@ impl Line {
         ensures { result ≡ has_place_of place self.now }
     {
         self.places.as_slice().iter().any(|at| place == *at)
-    }
-}
-
-fn is_ring(kind: LineKind) -> bool
-    ensures { result ≡ is_ring_of kind }
-{
-    match kind {
-        LineKind::Breakline => false,
-        LineKind::Outer | LineKind::Void | LineKind::Island => true,
     }
 }

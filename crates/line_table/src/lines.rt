@@ -1,8 +1,8 @@
 //! The table of live lines.
 
-ghost use Rattle.std.specs.Prelude.{◌≡◌, ◌+◌, ◌-◌, ◌^◌, ◌<◌, ◌≤◌, length, option_copied, option_map, IfOk, IfErr, OnOk, OnErr};
+ghost use Rattle.std.specs.Prelude.{◌≡◌, ◌+◌, ◌-◌, ◌^◌, ◌<◌, ◌≤◌, length, option_copied, option_map, IfOk, IfErr, IsOk, None, OnOk, OnErr};
 ghost use Rattle.std.specs.FinMap as finmap;
-ghost use Rattle.line_table.specs.Table.{no_lines, with_line, without_line, places_of};
+ghost use Rattle.ground_model.specs.Table.{no_lines, with_line, without_line, places_together};
 
 use crate::line::Line;
 use crate::live::LiveLines;
@@ -24,8 +24,9 @@ pub struct Lines {
 
 impl Model for Lines {
     ghost use Rattle.std.specs.FinMap as finmap;
-    ghost use Rattle.line_table.specs.Table.{Table, IsSound};
-    ghost use Rattle.line_table.specs.Codes.{coded_table};
+    ghost use Rattle.ground_model.specs.Table.{Table};
+    ghost use Rattle.line_table.specs.Sound.{IsSound};
+    ghost use Rattle.ground_model.specs.Codes.{coded_table};
 
     ghost Value = { Table };
 
@@ -66,13 +67,13 @@ impl Lines {
 
     /// How many places all live lines have together. It is kept, so a call costs nothing.
     pub fn places(&self) -> u64
-        ensures value { result ≡ places_of self.now }
+        ensures value { result ≡ places_together self.now }
         ensures small { result < 2 ^ 48 }
     {
         self.places
     }
 
-    /// Adds a line under the next number, on a copy of the places. Without memory the table is as
+    /// Adds a line under the next number, on a copy of the places. Out of memory the table is as
     /// before, and the places come back. Its cost is that of the copy and of a search by number.
     pub fn add(&mut self, kind: LineKind, places: Places) -> Result<LineId, (AllocError, Places)>
         requires few { finmap.len self.old.lines < 65535 }
@@ -97,12 +98,14 @@ impl Lines {
         }
     }
 
-    /// Takes a line out. None exactly for a number that is not live. The places are a copy, since
-    /// other versions may hold the line; an error leaves the table.
+    /// Takes a line out. None exactly for a number that is not live, which takes no memory and never
+    /// fails. The places are a copy, since other versions may hold the line; out of memory the table
+    /// is as before. Its cost is that of the copy and of a search by number.
     pub fn take(&mut self, id: LineId) -> Result<Option<(LineKind, Places)>, AllocError>
         ensures line { IfOk result (λ found. option_map (λ l. record { kind = l.0; places = l.1 }) found ≡ finmap.get self.old.lines id.0) }
         ensures ok { OnOk result (self.new ≡ without_line self.old id.0) }
         ensures err { OnErr result (self.new ≡ self.old) }
+        ensures absent { finmap.get self.old.lines id.0 ≡ None → IsOk result }
     {
         let Some(line) = self.lines.get(&id.0) else {
             return Ok(None);
@@ -124,6 +127,7 @@ impl Lines {
         }
     }
 
+    /// A line as it is stored. Its cost is a search by number.
     pub(crate) fn line(&self, id: LineId) -> Option<&Line>
         ensures { option_copied result ≡ finmap.get self.now.lines id.0 }
     {
@@ -133,7 +137,7 @@ impl Lines {
         }
     }
 
-    /// The same table, on the same lines. It costs a reference a line.
+    /// A table that equals this one and shares its lines. It costs a reference a line.
     pub fn share(&self) -> Result<Lines, AllocError>
         ensures { IfOk result (λ t. t ≡ self.now) }
     {
@@ -153,7 +157,7 @@ impl Lines {
     }
 }
 
-/// A line on a copy of the places.
+// A line on a copy of the places.
 fn shared_line(alloc: Global, kind: LineKind, places: &Places) -> Result<Shared<Line>, AllocError>
     ensures { IfOk result (λ line. line ≡ record { kind = kind; places = places.now }) }
 {

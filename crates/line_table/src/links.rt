@@ -7,12 +7,12 @@ ghost use Rattle.std.specs.Iterator.{YieldsFirst, item_count};
 use ground_model::Place;
 use std::marker::Model;
 
-/// The links of a line that are left, in order. A step costs the same whatever the length.
+/// The links of a line that are left, in order. What a step costs does not grow with the length.
 #[derive(Drop)]
 pub struct Links<'a> {
-    /// From the place where the next link starts.
+    // From the place where the next link starts.
     rest: &'a [Place],
-    /// Where a ring's last link ends.
+    // Where a ring's last link ends.
     close: Option<Place>,
 }
 
@@ -27,6 +27,7 @@ impl<'a> Model for Links<'a> {
 }
 
 impl<'a> Links<'a> {
+    /// The links from place to place, and one from the last place to `close`, if there is one.
     pub(crate) fn new(places: &'a [Place], close: Option<Place>) -> Links<'a>
         ensures { result ≡ zip places.entry.now (drop 1 places.entry.now ++ option_to_list close) }
     {
@@ -36,7 +37,7 @@ impl<'a> Links<'a> {
         }
     }
 
-    /// The same links again.
+    /// The links that are left, to be walked beside this walk.
     pub(crate) fn again(&self) -> Links<'a>
         ensures { result ≡ self.now }
     {

@@ -19,7 +19,7 @@ impl<'a> Model for LiveLines<'a> {
     ghost use Rattle.std.specs.Prelude.{ℕ, List};
     ghost use Rattle.std.specs.Coded.{coded_list, coded×, coded_ℕ};
     ghost use Rattle.ground_model.specs.Line.{Line as Seen};
-    ghost use Rattle.line_table.specs.Codes.{coded_line};
+    ghost use Rattle.ground_model.specs.Codes.{coded_line};
 
     ghost Value = { List (ℕ × Seen) };
 
@@ -29,6 +29,7 @@ impl<'a> Model for LiveLines<'a> {
 }
 
 impl<'a> LiveLines<'a> {
+    /// The lines that the map's entries hold.
     pub(crate) fn new(entries: Iter<'a, u32, Shared<Line>>) -> LiveLines<'a>
         ensures { result ≡ entries.entry }
     {

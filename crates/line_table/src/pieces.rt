@@ -6,7 +6,7 @@ ghost use Rattle.std.specs.List.Sorted.{IsStrictlySortedBy};
 ghost use Rattle.std.specs.FinMap as finmap;
 ghost use Rattle.ground_model.specs.Place.{Coords, is_same, place_cmp};
 ghost use Rattle.ground_model.specs.Side.{is_on_segment};
-ghost use Rattle.line_table.specs.Table.{counted_pieces, live, pieces_on_all};
+ghost use Rattle.ground_model.specs.Table.{counted_pieces, live, pieces_on};
 ghost use Rattle.line_table.specs.Along.{AreEnoughAlong};
 ghost use Rattle.line_table.specs.Ends.{AreEnds, goes_on as goes_on_of, next_on as next_on_of, next_points as next_points_of, spans as spans_of, count_over as count_over_of};
 
@@ -45,7 +45,7 @@ impl Lines {
     /// with each link, and each piece with each line.
     pub fn pieces(&self, points: &[Place]) -> Result<Vec<Piece>, AllocError>
         requires ordered { IsStrictlySortedBy place_cmp points.now }
-        ensures { IfOk result (λ ps. ps.items ≡ pieces_on_all points.now (live self.now)) }
+        ensures { IfOk result (λ ps. ps.items ≡ pieces_on points.now (live self.now)) }
     {
         let mut found = Vec::new(self.alloc);
         let mut ends = Vec::new(self.alloc);
@@ -58,7 +58,7 @@ impl Lines {
         Ok(found)
     }
 
-    /// Leaves the next points after p on the links of all lines, each once and in order.
+    // Leaves the next points after p on the links of all lines, each once and in order.
     fn find_ends(&self, ends: &mut Vec<Place>, p: Place, later: &[Place]) -> Result<(), AllocError>
         ensures { OnOk result (AreEnds later.now p (live self.now) ends.new.items) }
     {
@@ -82,7 +82,7 @@ impl Lines {
         Ok(())
     }
 
-    /// Adds a piece from p to each of the ends.
+    // Adds a piece from p to each of the ends.
     fn add_pieces(&self, found: &mut Vec<Piece>, p: Place, ends: &[Place]) -> Result<(), AllocError>
         ensures { OnOk result (found.new.items ≡ found.old.items ++ map (λ q. record { p = p; q = q; count = count_over_of (live self.now) p q }) ends.now) }
     {
@@ -93,7 +93,7 @@ impl Lines {
         Ok(())
     }
 
-    /// How many lines have a link over both places.
+    // How many lines have a link over both places.
     fn count_over(&self, p: Place, q: Place) -> u16
         ensures { result ≡ count_over_of (live self.now) p q }
     {
@@ -104,7 +104,7 @@ impl Lines {
     }
 }
 
-/// Leaves the next points after p on the links of one line, each once and in order.
+// Leaves the next points after p on the links of one line, each once and in order.
 fn find_ends_on(
     ends: &mut Vec<Place>,
     line: &Line,
@@ -164,7 +164,7 @@ fn add_end(ends: &mut Vec<Place>, end: Option<Place>) -> Result<(), AllocError>
     Ok(())
 }
 
-/// The first of the later points on the link, if it goes on from p.
+// The first of the later points on the link, if it goes on from p.
 fn next_on(link: &Link, p: Place, later: &[Place]) -> Option<Place>
     ensures { result ≡ next_on_of later.now p link.now }
 {
@@ -175,7 +175,7 @@ fn next_on(link: &Link, p: Place, later: &[Place]) -> Option<Place>
     }
 }
 
-/// Whether the link holds p, and an end of it comes after p.
+// Whether the link holds p, and an end of it comes after p.
 fn goes_on(link: &Link, p: Place) -> bool
     ensures { result ≡ goes_on_of p link.now }
 {
@@ -188,7 +188,7 @@ fn first_on(link: &Link, later: &[Place]) -> Option<Place>
     later.iter().copied().find(|q| lies_on(link, *q))
 }
 
-/// Whether one link of the line holds both places.
+// Whether one link of the line holds both places.
 #[tactic(auto, unfolding(crate::specs::Ends::spans))]
 fn spans(line: &Line, p: Place, q: Place) -> bool
     ensures { result ≡ spans_of p q line.now }

@@ -5,7 +5,7 @@ ghost use Rattle.std.specs.List.{list_any};
 ghost use Rattle.std.specs.Ordering.{is_eq};
 ghost use Rattle.ground_model.specs.Place.{is_before};
 ghost use Rattle.ground_model.specs.Side.{is_on_segment, orientation};
-ghost use Rattle.line_table.specs.Crossings.{cross_between};
+ghost use Rattle.ground_model.specs.Crossings.{cross_between};
 ghost use Rattle.line_table.specs.Joints.{cross_over as cross_over_of};
 
 use ground_model::{Corner, Place};
@@ -19,10 +19,10 @@ pub(crate) type Link = (Place, Place);
 pub(crate) fn lies_on(link: &Link, p: Place) -> bool
     ensures { result ≡ is_on_segment link.now.0 link.now.1 p }
 {
-    lies_within(link.0, link.1, p) && are_in_line(link.0, link.1, p)
+    lies_within(link.0, link.1, p) && are_collinear(link.0, link.1, p)
 }
 
-fn are_in_line(u: Place, v: Place, p: Place) -> bool
+fn are_collinear(u: Place, v: Place, p: Place) -> bool
     ensures { result ≡ is_eq (orientation u v p) }
 {
     matches!(
@@ -31,7 +31,7 @@ fn are_in_line(u: Place, v: Place, p: Place) -> bool
     )
 }
 
-/// Whether p, in the order of places, is neither before both nor after both.
+// Whether p, in the order of places, is neither before both nor after both.
 fn lies_within(u: Place, v: Place, p: Place) -> bool
     ensures { result ≡ (not (is_before p u) && not (is_before v p) || not (is_before p v) && not (is_before u p)) }
 {

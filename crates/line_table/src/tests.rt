@@ -6,60 +6,17 @@ ghost use Rattle.std.specs.List.Sorted.{IsStrictlySortedBy};
 ghost use Rattle.std.specs.FinMap as finmap;
 ghost use Rattle.ground_model.specs.Place.{place_cmp};
 ghost use Rattle.ground_model.specs.Line.{is_point as is_point_of};
-ghost use Rattle.line_table.specs.Crossings.{is_on_points};
-ghost use Rattle.line_table.specs.Table.{live};
+ghost use Rattle.ground_model.specs.Crossings.{is_on_points};
+ghost use Rattle.ground_model.specs.Table.{live};
 
 use crate::pieces::order;
 use crate::{Line, Lines, self_cross};
 use ground_model::{LineId, LineKind, Piece, Place, Places};
-use std::alloc::Global;
+use std::alloc::{AllocError, Global};
 use std::process::Abort;
 use std::test::Fail;
 
 type At = (i32, i32);
-
-fn place(rt: &impl Abort, at: At) -> Place {
-    Place::new(at.0, at.1).expect(rt, "a place")
-}
-
-fn vector(rt: &impl Abort, alloc: Global, ats: &[At]) -> Result<Vec<Place>, Fail> {
-    let mut all = Vec::new(alloc);
-    for at in ats {
-        all.push(place(rt, *at))?;
-    }
-    Ok(all)
-}
-
-/// The points of a surface, in order.
-fn points(rt: &impl Abort, alloc: Global, ats: &[At]) -> Result<Vec<Place>, Fail>
-    ensures { IfOk result (λ points. IsStrictlySortedBy place_cmp points.items) }
-{
-    let mut all = vector(rt, alloc, ats)?;
-    order(&mut all);
-    Ok(all)
-}
-
-fn line(rt: &impl Abort, alloc: Global, kind: LineKind, ats: &[At]) -> Result<Line, Fail> {
-    Ok(Line::new(kind, Places::from_vec(vector(rt, alloc, ats)?)))
-}
-
-fn add(
-    rt: &impl Abort,
-    alloc: Global,
-    lines: &mut Lines,
-    kind: LineKind,
-    ats: &[At],
-) -> Result<u32, Fail> {
-    let places = Places::from_vec(vector(rt, alloc, ats)?);
-    let next = lines.next();
-    assert!(rt; lines.len() < 65_535);
-    assert!(rt; next.0 < u32::MAX);
-    assert!(rt; places.len() < 4_294_967_296);
-    match lines.add(kind, places) {
-        Ok(id) => Ok(id.0),
-        Err((error, _)) => Err(error.into()),
-    }
-}
 
 const RING: [At; 4] = [(0, 0), (10, 0), (10, 10), (0, 10)];
 
@@ -69,73 +26,61 @@ const THERE_AND_BACK: [At; 3] = [(5, 0), (10, 0), (5, 0)];
 
 const POINTS: [At; 7] = [(0, 0), (0, 10), (5, 0), (5, 5), (10, 0), (10, 5), (10, 10)];
 
-/// A ring, a breakline over a part of one of its sides, and one that goes over another twice.
-fn three_lines(rt: &impl Abort, alloc: Global) -> Result<Lines, Fail> {
+fn place(rt: &impl Abort, at: At) -> Place {
+    Place::new(at.0, at.1).expect(rt, "a place")
+}
+
+fn vector(rt: &impl Abort, alloc: Global, ats: &[At]) -> Result<Vec<Place>, AllocError> {
+    let mut all = Vec::new(alloc);
+    for at in ats {
+        all.push(place(rt, *at))?;
+    }
+    Ok(all)
+}
+
+// The points of a surface, in order.
+fn points(rt: &impl Abort, alloc: Global, ats: &[At]) -> Result<Vec<Place>, AllocError>
+    ensures { IfOk result (λ points. IsStrictlySortedBy place_cmp points.items) }
+{
+    let mut all = vector(rt, alloc, ats)?;
+    order(&mut all);
+    Ok(all)
+}
+
+fn add(rt: &impl Abort, lines: &mut Lines, kind: LineKind, places: Places) -> u32 {
+    assert!(rt; lines.len() < 65_535);
+    assert!(rt; lines.next().0 < u32::MAX);
+    assert!(rt; places.len() < 4_294_967_296);
+    match lines.add(kind, places) {
+        Ok(id) => id.0,
+        Err(_) => 0,
+    }
+}
+
+fn table(
+    rt: &impl Abort,
+    alloc: Global,
+    rows: &[(LineKind, &'static [At])],
+) -> Result<Lines, AllocError> {
     let mut lines = Lines::empty(alloc);
-    for (number, kind, ats) in [
-        (1, LineKind::Outer, RING.as_slice()),
-        (2, LineKind::Breakline, OVER_A_SIDE.as_slice()),
-        (3, LineKind::Breakline, THERE_AND_BACK.as_slice()),
-    ] {
-        assert_eq!(rt; add(rt, alloc, &mut lines, kind, ats)?, number, "{ats:?}");
+    for (kind, ats) in rows {
+        let places = Places::from_vec(vector(rt, alloc, ats)?);
+        let _number = add(rt, &mut lines, *kind, places);
     }
     Ok(lines)
 }
 
-fn compare(rt: &impl Abort, found: &[Piece], want: &[(At, At, u16)], what: &str) {
-    assert_eq!(rt; found.len(), want.len(), "{what}");
-    for (found, (p, q, count)) in found.iter().zip(want) {
-        let want = Piece {
-            p: place(rt, *p),
-            q: place(rt, *q),
-            count: *count,
-        };
-        assert_eq!(rt; *found, want, "{what}");
-    }
-}
-
-#[test]
-fn shared_pieces_are_counted_once_a_line(rt: HostRuntime) -> Result<(), Fail> {
-    let lines = three_lines(&rt, rt.alloc())?;
-    let points = points(&rt, rt.alloc(), &POINTS)?;
-    let all = [
-        ((0, 0), (0, 10), 1),
-        ((0, 0), (5, 0), 2),
-        ((0, 10), (10, 10), 1),
-        ((5, 0), (5, 5), 1),
-        ((5, 0), (10, 0), 2),
-        ((10, 0), (10, 5), 1),
-        ((10, 5), (10, 10), 1),
-    ];
-    compare(
-        &rt,
-        lines.pieces(points.as_slice())?.as_slice(),
-        &all,
-        "all",
-    );
-    let of_each = [
-        (
-            1,
-            [
-                ((0, 0), (0, 10), 1),
-                ((0, 0), (5, 0), 2),
-                ((0, 10), (10, 10), 1),
-                ((5, 0), (10, 0), 2),
-                ((10, 0), (10, 5), 1),
-                ((10, 5), (10, 10), 1),
-            ]
-            .as_slice(),
-        ),
-        (2, [((0, 0), (5, 0), 2), ((5, 0), (5, 5), 1)].as_slice()),
-        (3, [((5, 0), (10, 0), 2)].as_slice()),
-    ];
-    for (number, want) in of_each {
-        let id = LineId(number);
-        assert!(rt; is_live(&lines, id), "line {number}");
-        let found = lines.pieces_of(id, points.as_slice())?;
-        compare(&rt, found.as_slice(), want, "of one line");
-    }
-    Ok(())
+// A ring, a breakline over a part of one of its sides, and one that goes over another twice.
+fn three_lines(rt: &impl Abort, alloc: Global) -> Result<Lines, AllocError> {
+    table(
+        rt,
+        alloc,
+        &[
+            (LineKind::Outer, &RING),
+            (LineKind::Breakline, &OVER_A_SIDE),
+            (LineKind::Breakline, &THERE_AND_BACK),
+        ],
+    )
 }
 
 fn is_live(lines: &Lines, id: LineId) -> bool
@@ -147,70 +92,56 @@ fn is_live(lines: &Lines, id: LineId) -> bool
     }
 }
 
+fn compare(rt: &impl Abort, found: &[Piece], want: &[(At, At, u16)]) {
+    assert_eq!(rt; found.len(), want.len());
+    for (found, (p, q, count)) in found.iter().zip(want) {
+        assert_eq!(rt; (found.p, found.q), (place(rt, *p), place(rt, *q)));
+        assert_eq!(rt; found.count, *count, "{p:?} {q:?}");
+    }
+}
+
+#[test]
+fn shared_pieces_are_counted_once_a_line(rt: HostRuntime) -> Result<(), Fail> {
+    let lines = three_lines(&rt, rt.alloc())?;
+    let points = points(&rt, rt.alloc(), &POINTS)?;
+    let want = [
+        ((0, 0), (0, 10), 1),
+        ((0, 0), (5, 0), 2),
+        ((0, 10), (10, 10), 1),
+        ((5, 0), (5, 5), 1),
+        ((5, 0), (10, 0), 2),
+        ((10, 0), (10, 5), 1),
+        ((10, 5), (10, 10), 1),
+    ];
+    compare(&rt, lines.pieces(points.as_slice())?.as_slice(), &want);
+    assert!(rt; is_live(&lines, LineId(2)));
+    let of_one = lines.pieces_of(LineId(2), points.as_slice())?;
+    let want = [((0, 0), (5, 0), 2), ((5, 0), (5, 5), 1)];
+    compare(&rt, of_one.as_slice(), &want);
+    Ok(())
+}
+
+fn counts(lines: &Lines) -> (u32, u64, u32) {
+    (lines.len(), lines.places(), lines.next().0)
+}
+
 #[test]
 fn numbers_are_never_given_again(rt: HostRuntime) -> Result<(), Fail> {
     let mut lines = three_lines(&rt, rt.alloc())?;
     let before = lines.share()?;
-    let Some((kind, places)) = lines.take(LineId(3))? else {
-        return Err("line 3 is there".into());
-    };
-    assert_eq!(rt; kind, LineKind::Breakline);
-    assert_eq!(rt;
-        places.as_slice(),
-        vector(&rt, rt.alloc(), &THERE_AND_BACK)?.as_slice()
-    );
-    assert!(rt; lines.take(LineId(3))?.is_none());
-    assert!(rt; lines.get(LineId(3)).is_none());
-    assert_eq!(rt; (lines.len(), lines.places(), lines.next().0), (2, 7, 4));
-    assert_eq!(rt; add(&rt, rt.alloc(), &mut lines, LineKind::Void, &RING)?, 4);
-    let mut numbers = Vec::new(rt.alloc());
-    for (id, line) in lines.iter().rev() {
-        numbers.push((id.0, line.places().len()))?;
-    }
-    assert_eq!(rt; numbers.as_slice(), [(4, 4), (2, 3), (1, 4)].as_slice());
-    assert_eq!(rt;
-        (before.len(), before.places(), before.next().0),
-        (3, 10, 4),
-        "shared"
-    );
-    assert!(rt; before.get(LineId(3)).is_some(), "shared");
+    let last = LineId(3);
+    assert_eq!(rt; lines.take(last)?.map(|line| line.1.len()), Some(3));
+    assert!(rt; lines.take(last)?.is_none() && !is_live(&lines, last));
+    assert_eq!(rt; counts(&lines), (2, 7, 4));
+    let ring = Places::from_vec(vector(&rt, rt.alloc(), &RING)?);
+    assert_eq!(rt; add(&rt, &mut lines, LineKind::Void, ring), 4);
+    assert_eq!(rt; lines.iter().next_back().map(|entry| entry.0.0), Some(4));
+    assert_eq!(rt; counts(&before), (3, 10, 4), "shared");
+    assert!(rt; is_live(&before, last), "shared");
     Ok(())
 }
 
-#[test]
-fn the_least_line_that_has_the_place_holds_it(rt: HostRuntime) -> Result<(), Fail> {
-    let lines = three_lines(&rt, rt.alloc())?;
-    for (at, want) in [
-        ((0, 0), Some(1)),
-        ((5, 0), Some(2)),
-        ((10, 0), Some(1)),
-        ((10, 5), None),
-    ] {
-        let found = lines.holding(place(&rt, at)).map(|id| id.0);
-        assert_eq!(rt; found, want, "{at:?}");
-    }
-    Ok(())
-}
-
-#[test]
-fn a_segment_crosses_between_points(rt: HostRuntime) -> Result<(), Fail> {
-    let lines = three_lines(&rt, rt.alloc())?;
-    let points = points(&rt, rt.alloc(), &POINTS)?;
-    for (p, q, want, what) in [
-        ((2, -3), (2, 3), Some(1), "over a side"),
-        ((5, -3), (5, 3), None, "over a side at a point"),
-        ((-3, 4), (3, 4), Some(1), "over the closing link"),
-        ((4, 2), (6, 2), Some(2), "over a breakline"),
-        ((2, 0), (2, 3), None, "from a side"),
-        ((2, 0), (12, 0), None, "along a side"),
-    ] {
-        let found = lines.crossing(place(&rt, p), place(&rt, q), points.as_slice())?;
-        assert_eq!(rt; found.map(|id| id.0), want, "{what}");
-    }
-    Ok(())
-}
-
-#[tactic(auto, unfolding(crate::specs::Crossings::is_on_points))]
+#[tactic(auto, unfolding(ground_model::specs::Crossings::is_on_points))]
 fn is_on(points: &[Place], line: &Line) -> bool
     ensures { result ≡ is_on_points points.now line.now }
 {
@@ -226,74 +157,140 @@ fn is_point(points: &[Place], at: Place) -> bool
     points.iter().any(|point| at == *point)
 }
 
-/// Whether each place of each line is a point.
+// Whether each place of each line is a point.
 fn are_on(points: &[Place], lines: &Lines) -> bool
     ensures { IsTrue result → All (λ line. IsTrue (is_on_points points.now line)) (live lines.now) }
 {
     lines.iter().all(|(_, line)| is_on(points, line))
 }
 
+// The least line that has the place, and the least one that crosses the segment from it.
+fn found_at(
+    rt: &impl Abort,
+    lines: &Lines,
+    points: &[Place],
+    p: At,
+    q: At,
+) -> Result<(Option<u32>, Option<u32>), AllocError> {
+    assert!(rt; are_on(points, lines));
+    let (p, q) = (place(rt, p), place(rt, q));
+    let crossing = lines.crossing(p, q, points)?;
+    Ok((lines.holding(p).map(|id| id.0), crossing.map(|id| id.0)))
+}
+
+fn segments_cross(rt: &impl Abort, lines: &Lines, points: &[Place]) -> Result<(), AllocError> {
+    for (p, q, holding, crossing, what) in [
+        ((2, -3), (2, 3), None, Some(1), "over a side"),
+        ((5, -3), (5, 3), None, None, "over a side at a point"),
+        ((-3, 4), (3, 4), None, Some(1), "over the closing link"),
+        ((5, 0), (12, 3), Some(2), Some(1), "from a breakline"),
+        ((10, 5), (4, 2), None, Some(2), "over a breakline"),
+        ((2, 0), (12, 0), None, None, "along a side"),
+    ] {
+        let found = found_at(rt, lines, points, p, q)?;
+        assert_eq!(rt; found, (holding, crossing), "{what}");
+    }
+    Ok(())
+}
+
+#[test]
+fn a_segment_crosses_between_points(rt: HostRuntime) -> Result<(), Fail> {
+    let lines = three_lines(&rt, rt.alloc())?;
+    let points = points(&rt, rt.alloc(), &POINTS)?;
+    Ok(segments_cross(&rt, &lines, points.as_slice())?)
+}
+
+// The least line that the line crosses, and the least pair of its links that cross.
+fn crossings(
+    rt: &impl Abort,
+    lines: &Lines,
+    points: &[Place],
+    kind: LineKind,
+    ats: &[At],
+) -> Result<(Option<u32>, Option<(u32, u32)>), AllocError> {
+    let line = Line::new(kind, Places::from_vec(vector(rt, lines.alloc, ats)?));
+    assert!(rt; line.places().len() < 4_294_967_296);
+    assert!(rt; is_on(points, &line) && are_on(points, lines));
+    let crossed = lines.crossed(&line, points);
+    Ok((crossed.map(|id| id.0), self_cross(&line, points)))
+}
+
+fn lines_cross(rt: &impl Abort, lines: &Lines, points: &[Place]) -> Result<(), AllocError> {
+    let eight = [(0, 0), (10, 0), (0, 10), (10, 10)];
+    let fork = [(0, 0), (10, 5), (10, 0), (0, 10)];
+    for (kind, ats, crossed, self_crossed) in [
+        (LineKind::Outer, eight, None, None),
+        (LineKind::Breakline, fork, Some(2), Some((1, 3))),
+        (LineKind::Breakline, RING, None, None),
+    ] {
+        let found = crossings(rt, lines, points, kind, &ats)?;
+        assert_eq!(rt; found, (crossed, self_crossed), "{ats:?}");
+    }
+    Ok(())
+}
+
 #[test]
 fn a_line_crosses_lines_between_points(rt: HostRuntime) -> Result<(), Fail> {
     let lines = three_lines(&rt, rt.alloc())?;
     let points = points(&rt, rt.alloc(), &POINTS)?;
-    assert!(rt; are_on(points.as_slice(), &lines));
-    for (ats, want, what) in [
-        ([(0, 0), (10, 5)], Some(2), "over a breakline"),
-        ([(0, 10), (10, 0)], None, "by the end of a breakline"),
-        ([(0, 0), (10, 0)], None, "along a side"),
-    ] {
-        let line = line(&rt, rt.alloc(), LineKind::Breakline, &ats)?;
-        assert!(rt; is_on(points.as_slice(), &line), "{what}");
-        let found = lines.crossed(&line, points.as_slice());
-        assert_eq!(rt; found.map(|id| id.0), want, "{what}");
-    }
+    lines_cross(&rt, &lines, points.as_slice())?;
+    let none = Lines::empty(rt.alloc());
+    let eight = [(0, 0), (10, 0), (0, 10), (10, 5)];
+    let found = crossings(&rt, &none, points.as_slice(), LineKind::Outer, &eight)?;
+    assert_eq!(rt; found, (None, Some((2, 4))), "by the closing link");
     Ok(())
 }
 
-#[test]
-fn a_ring_crosses_itself_by_its_closing_link(rt: HostRuntime) -> Result<(), Fail> {
-    let eight = [(0, 0), (10, 0), (0, 10), (10, 10)];
-    let fork = [(0, 0), (10, 10), (10, 0), (0, 10)];
-    let square = points(&rt, rt.alloc(), &RING)?;
-    let with_centre = points(&rt, rt.alloc(), &POINTS)?;
-    for (kind, ats, points, want, what) in [
-        (LineKind::Outer, eight, &square, Some((2, 4)), "a ring"),
-        (LineKind::Breakline, eight, &square, None, "left open"),
-        (
-            LineKind::Breakline,
-            fork,
-            &square,
-            Some((1, 3)),
-            "two links",
-        ),
-        (LineKind::Breakline, fork, &with_centre, None, "at a point"),
-    ] {
-        let line = line(&rt, rt.alloc(), kind, &ats)?;
-        assert!(rt; line.places().len() < 4_294_967_296);
-        assert!(rt; is_on(points.as_slice(), &line), "{what}");
-        assert_eq!(rt; self_cross(&line, points.as_slice()), want, "{what}");
-    }
-    Ok(())
-}
-
-#[test]
-fn a_point_may_join_two_lines_or_one(rt: HostRuntime) -> Result<(), Fail> {
-    let mut lines = Lines::empty(rt.alloc());
-    add(&rt, rt.alloc(), &mut lines, LineKind::Island, &RING)?;
-    for diagonal in [[(0, 0), (10, 10)], [(0, 10), (10, 0)]] {
-        add(&rt, rt.alloc(), &mut lines, LineKind::Breakline, &diagonal)?;
-    }
-    let folded = [(20, 0), (30, 10), (30, 0), (20, 10)];
-    add(&rt, rt.alloc(), &mut lines, LineKind::Breakline, &folded)?;
+fn joints(rt: &impl Abort, lines: &Lines) {
     for (at, want, what) in [
         ((5, 5), Some((2, 3)), "two lines"),
         ((25, 5), Some((4, 4)), "one line"),
         ((3, 3), None, "a point of one link"),
         ((0, 0), None, "the end of two lines"),
     ] {
-        let found = lines.joint(place(&rt, at)).map(|pair| (pair.0.0, pair.1.0));
+        let found = lines.joint(place(rt, at)).map(|pair| (pair.0.0, pair.1.0));
         assert_eq!(rt; found, want, "{what}");
     }
+}
+
+#[test]
+fn a_point_may_join_two_lines_or_one(rt: HostRuntime) -> Result<(), Fail> {
+    let lines = table(
+        &rt,
+        rt.alloc(),
+        &[
+            (LineKind::Island, &RING),
+            (LineKind::Breakline, &[(0, 0), (10, 10)]),
+            (LineKind::Breakline, &[(0, 10), (10, 0)]),
+            (LineKind::Breakline, &[(20, 0), (30, 10), (30, 0), (20, 10)]),
+        ],
+    )?;
+    joints(&rt, &lines);
+    Ok(())
+}
+
+// The points of a zigzag from west to east.
+fn zigzag(rt: &impl Abort, alloc: Global) -> Result<Vec<Place>, AllocError>
+    ensures { IfOk result (λ points. IsStrictlySortedBy place_cmp points.items) }
+{
+    let mut all = Vec::new(alloc);
+    for e in 0..1_000 {
+        all.push(place(rt, (e, e % 2)))?;
+    }
+    order(&mut all);
+    Ok(all)
+}
+
+#[test]
+fn a_line_of_a_thousand_places_is_added_and_taken(rt: HostRuntime) -> Result<(), Fail> {
+    let points = zigzag(&rt, rt.alloc())?;
+    let mut lines = Lines::empty(rt.alloc());
+    let places = Places::from_slice(rt.alloc(), points.as_slice())?;
+    assert!(rt; add(&rt, &mut lines, LineKind::Void, places) == 1 && is_live(&lines, LineId(1)));
+    assert_eq!(rt; lines.pieces_of(LineId(1), points.as_slice())?.len(), 1_000);
+    assert_eq!(rt;
+        lines.take(LineId(1))?.map(|line| line.1.len()),
+        Some(1_000)
+    );
     Ok(())
 }

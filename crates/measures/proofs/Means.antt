@@ -37,49 +37,29 @@ mul-le : (x y w : ℤ) → x ≤ℤ y → pos 0 ≤ℤ w → (x *ℤ w) ≤ℤ (
 mul-le x y w h k = omega (arith, ints, mul-nonneg (y -ℤ x) w (omega (arith, ints)) k, ring (x ∷ y ∷ w ∷ []) ((var 1 ⊖ var 0) ⊗ var 2) (var 1 ⊗ var 2 ⊖ var 0 ⊗ var 2) refl)
 
 -- ---- the mean
--- a quotient rounded half up lies within whole bounds of the sum
-at_most : (l s a q : ℤ) → pos 0 <ℤ a → s ≤ℤ (l *ℤ a) → ((pos 2 *ℤ a) *ℤ q) ≤ℤ (pos 2 *ℤ s +ℤ a) → q ≤ℤ l
-at_most l s a q h below floor = by_lt_z l q
-    (λ more. absurd (beyond more (mul-le (l +ℤ pos 1) q a (omega (arith, ints)) (omega (arith, ints)))))
-    (λ le. le)
-  where
-    beyond : l <ℤ q → ((l +ℤ pos 1) *ℤ a) ≤ℤ (q *ℤ a) → ⊥
-    beyond more rise = omega (
-      arith,
-      ints,
-      h,
-      below,
-      floor,
-      rise,
-      ring (a ∷ q ∷ []) ((num (pos 2) ⊗ var 0) ⊗ var 1) (num (pos 2) ⊗ (var 1 ⊗ var 0)) refl,
-      ring (l ∷ a ∷ []) ((var 0 ⊕ num (pos 1)) ⊗ var 1) (var 0 ⊗ var 1 ⊕ var 1) refl,
-    )
-
-at_least : (l s a q : ℤ) → pos 0 <ℤ a → (l *ℤ a) ≤ℤ s → (pos 2 *ℤ s +ℤ a) <ℤ ((pos 2 *ℤ a) *ℤ q +ℤ pos 2 *ℤ a) → l ≤ℤ q
-at_least l s a q h above more = by_lt_z q l
-    (λ less. absurd (beyond less (mul-le (q +ℤ pos 1) l a (omega (arith, ints)) (omega (arith, ints)))))
-    (λ le. le)
-  where
-    beyond : q <ℤ l → ((q +ℤ pos 1) *ℤ a) ≤ℤ (l *ℤ a) → ⊥
-    beyond less rise = omega (
-      arith,
-      ints,
-      h,
-      above,
-      more,
-      rise,
-      ring (a ∷ q ∷ []) ((num (pos 2) ⊗ var 0) ⊗ var 1) (num (pos 2) ⊗ (var 1 ⊗ var 0)) refl,
-      ring (q ∷ a ∷ []) ((var 0 ⊕ num (pos 1)) ⊗ var 1) (var 0 ⊗ var 1 ⊕ var 1) refl,
-    )
-
 twice : (a : ℤ) → pos 0 <ℤ a → pos 0 <ℤ (pos 2 *ℤ a)
 twice a h = omega (arith, ints)
 
+-- a multiple that is less than the next one after another is no more than this
+cancelled : (x y w : ℤ) → pos 0 <ℤ w → (w *ℤ x) <ℤ (w *ℤ y +ℤ w) → x ≤ℤ y
+cancelled x y w h less = by_lt_z y x
+    (λ more. absurd (beyond (mul-le (y +ℤ pos 1) x w (omega (arith, ints)) (omega (arith, ints)))))
+    (λ le. le)
+  where
+    beyond : ((y +ℤ pos 1) *ℤ w) ≤ℤ (x *ℤ w) → ⊥
+    beyond rise = omega (arith, ints, less, rise, ring (y ∷ w ∷ []) ((var 0 ⊕ num (pos 1)) ⊗ var 1) (var 1 ⊗ var 0 ⊕ var 1) refl)
+
+-- a quotient rounded half up lies within whole bounds of the sum
+doubled : (l a : ℤ) → (pos 2 *ℤ a) *ℤ l ≡ pos 2 *ℤ (l *ℤ a)
+doubled l a = ring (l ∷ a ∷ []) ((num (pos 2) ⊗ var 1) ⊗ var 0) (num (pos 2) ⊗ (var 0 ⊗ var 1)) refl
+
 rounded-le : (l s a : ℤ) → pos 0 <ℤ a → s ≤ℤ (l *ℤ a) → rounded_half_up s a ≤ℤ l
-rounded-le l s a h below = at_most l s a (rounded_half_up s a) h below (floor_div-le (pos 2 *ℤ s +ℤ a) (pos 2 *ℤ a) (twice a h))
+rounded-le l s a h below = cancelled (rounded_half_up s a) l (pos 2 *ℤ a) (twice a h)
+    (omega (arith, ints, h, below, doubled l a, floor_div-le (pos 2 *ℤ s +ℤ a) (pos 2 *ℤ a) (twice a h)))
 
 rounded-ge : (l s a : ℤ) → pos 0 <ℤ a → (l *ℤ a) ≤ℤ s → l ≤ℤ rounded_half_up s a
-rounded-ge l s a h above = at_least l s a (rounded_half_up s a) h above (floor_div-more (pos 2 *ℤ s +ℤ a) (pos 2 *ℤ a) (twice a h))
+rounded-ge l s a h above = cancelled l (rounded_half_up s a) (pos 2 *ℤ a) (twice a h)
+    (omega (arith, ints, h, above, doubled l a, floor_div-more (pos 2 *ℤ s +ℤ a) (pos 2 *ℤ a) (twice a h)))
 
 pub mean_is_level : (za zb zc wa wb wc area : ℤ) → IsLevel za → IsLevel zb → IsLevel zc → pos 0 ≤ℤ wa → pos 0 ≤ℤ wb → pos 0 ≤ℤ wc → wa +ℤ wb +ℤ wc ≡ area → pos 0 <ℤ area
     → IsLevel (rounded_half_up (za *ℤ wa +ℤ zb *ℤ wb +ℤ zc *ℤ wc) area)
@@ -108,7 +88,7 @@ level_on_is_level p s a b c turned on =
     (not_right s.facet.b s.facet.c p two.1) (not_right s.facet.c s.facet.a p both.1) (not_right s.facet.a s.facet.b p two.0)
     (side-parts s.facet.a s.facet.b s.facet.c p) (turns_of_left s.facet.a s.facet.b s.facet.c turned)
 
--- what the code reckons, where nothing is lost
+-- what the code computes, where nothing is lost
 pub mean_is : (p : Coords) (s : Slope) (sum area mean : ℤ) → FitsSigned w128 sum → FitsSigned w64 area → sum ≡ weighted_level s p → area ≡ side s.facet.a s.facet.b s.facet.c
     → mean ≡ rounded_half_up (to_z w128 (of_z w128 sum)) (to_z w64 (of_z w64 area)) → mean ≡ level_on p s
 mean_is p s sum area mean fs fa es ea e =

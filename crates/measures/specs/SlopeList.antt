@@ -19,9 +19,9 @@ level_in (s ∷ slopes) p = if is_same s.facet.a p then s.za
     else if is_same s.facet.c p then s.zc
     else level_in slopes p
 
--- in facet order, counterclockwise, and with one level for each place
+-- fewer than 2^30, in facet order, counterclockwise, and with one level for each place
 pub record IsRelief (slopes : List Slope) : Type 0 where
   pub in_order : IsStrictlySortedBy slope_cmp slopes
   pub turned : All (λ s. IsTrue (is_left s.facet.a s.facet.b s.facet.c)) slopes
   pub one_level : All (λ s. (s.za ≡ level_in slopes s.facet.a) × (s.zb ≡ level_in slopes s.facet.b) × (s.zc ≡ level_in slopes s.facet.c)) slopes
-  pub few : length slopes < 2 ^ 32
+  pub few : length slopes < 2 ^ 30

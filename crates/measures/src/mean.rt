@@ -9,7 +9,7 @@ use ground_model::{Level, Place, Slope};
 use predicates::exact_side;
 
 /// The levels of the corners, each weighted by twice the area of the triangle across from it.
-pub fn weighted_sum(slope: &Slope, place: Place) -> i128
+pub(crate) fn weighted_sum(slope: &Slope, place: Place) -> i128
     ensures value { result ≡ weighted_level slope.now place }
     ensures size { unsigned_abs result ≤ 2 ^ 89 }
     ensures za { IsLevel slope.now.za }
@@ -23,6 +23,7 @@ pub fn weighted_sum(slope: &Slope, place: Place) -> i128
     combined(at_a, at_b, at_c)
 }
 
+// A level weighted by a side, with the size of the product.
 fn weighted(level: Level, side: i64) -> i128
     requires { unsigned_abs side ≤ 2 ^ 61 }
     ensures value { result ≡ level *ℤ side }
@@ -32,6 +33,7 @@ fn weighted(level: Level, side: i64) -> i128
     product(i128::from(level.get()), i128::from(side))
 }
 
+// The product in 128 bits.
 fn product(level: i128, side: i128) -> i128
     requires level { unsigned_abs level ≤ 2 ^ 26 }
     requires side { unsigned_abs side ≤ 2 ^ 61 }
@@ -41,6 +43,7 @@ fn product(level: i128, side: i128) -> i128
     level * side
 }
 
+// The sum of three products.
 fn combined(x: i128, y: i128, z: i128) -> i128
     requires x { unsigned_abs x ≤ 2 ^ 87 }
     requires y { unsigned_abs y ≤ 2 ^ 87 }
@@ -52,11 +55,18 @@ fn combined(x: i128, y: i128, z: i128) -> i128
 }
 
 /// The greatest whole number not above the quotient and a half.
-pub fn rounded_half_up(sum: i128, area: i64) -> i128
+pub(crate) fn rounded_half_up(sum: i128, area: i64) -> i128
     requires sum { unsigned_abs sum ≤ 2 ^ 89 }
     requires area { pos 0 <ℤ area }
     ensures { result ≡ rounded_half_up_of sum area }
 {
-    let area = i128::from(area);
-    (2 * sum + area).div_euclid(2 * area)
+    raised(sum, area).div_euclid(2 * i128::from(area))
+}
+
+// Twice the sum and once the area, so that the quotient by twice the area is more by a half.
+fn raised(sum: i128, area: i64) -> i128
+    requires sum { unsigned_abs sum ≤ 2 ^ 89 }
+    ensures { result ≡ pos 2 *ℤ sum +ℤ area }
+{
+    2 * sum + i128::from(area)
 }

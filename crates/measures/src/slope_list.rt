@@ -7,8 +7,8 @@ use ground_model::{Listed, Place, Relief, Slope};
 use predicates::holds;
 use std::marker::Model;
 
-/// The kept facets of a surface with their levels, in facet order, each at the slot of its place
-/// in the list. `holding` tests one facet after the other.
+/// The kept facets of a surface with their levels, fewer than 2^30, in facet order, each at the
+/// slot of its index. `holding` tests one facet after the other.
 #[derive(Drop)]
 pub struct SlopeList {
     slopes: Listed<Slope>,

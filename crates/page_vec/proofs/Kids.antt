@@ -1,9 +1,9 @@
--- The same lemmas in the words of the calls: l is the list that the pieces xs stand for, r the room as the code has it, x the piece that was read.
+-- The lemmas of Pieces in the words of the calls: l is the list that the pieces xs stand for, r the room as the code has it, x the piece that was read.
 use Rattle.std.proofs.Common.{◌≡◌, ℕ, ◌+◌, ◌/◌, ◌%◌, ◌<◌, List, [], ◌∷◌, ◌++◌, length, get_or, set, sym, ap, ◌∙◌, subst, arith}
 use Rattle.std.specs.List.{flat_map}
 use Rattle.std.proofs.lemmas.List.{length_push}
 use Rattle.page_vec.specs.Packed.{IsPacked}
-use Rattle.page_vec.proofs.Pieces.{in_piece, in_place, at_place, put_place, same_piece, packed_same, packed_put, grown}
+use Rattle.page_vec.proofs.Pieces.{in_piece, in_range, at_index, put_index, same_piece, packed_same, packed_put, grown}
 
 module _ {X T : Type 0} {f : X → List T} {room : ℕ} {xs : List X} (p : IsPacked f room xs) where
   within : (l : List T) (k : ℕ) → flat_map f xs ≡ l → k < length l → k < length (flat_map f xs)
@@ -15,19 +15,19 @@ module _ {X T : Type 0} {f : X → List T} {room : ℕ} {xs : List X} (p : IsPac
   pub item_there : (some : 0 < room) (l : List T) (k r : ℕ) (x : X) → flat_map f xs ≡ l → k < length l → r ≡ room → x ≡ get_or xs (k / r) x → k % r < length (f x)
   item_there some l k r x v h e is =
       let at : x ≡ get_or xs (k / room) x = is ∙ ap (λ n. get_or xs (k / n) x) e in
-      subst (λ n. k % n < length (f x)) (sym e) (subst (λ y. k % room < length (f y)) (sym at) (in_place f room xs p some k (within l k v h) x))
+      subst (λ n. k % n < length (f x)) (sym e) (subst (λ y. k % room < length (f y)) (sym at) (in_range f room xs p some k (within l k v h) x))
 
   pub item_read : (some : 0 < room) (l : List T) (k r : ℕ) (x : X) (w : T) → flat_map f xs ≡ l → k < length l → r ≡ room → x ≡ get_or xs (k / r) x → w ≡ get_or (f x) (k % r) w → w ≡ get_or l k w
   item_read some l k r x w v h e is got =
       let at : x ≡ get_or xs (k / room) x = is ∙ ap (λ n. get_or xs (k / n) x) e in
       got ∙ ap (λ n. get_or (f x) (k % n) w) e ∙ ap (λ y. get_or (f y) (k % room) w) at
-      ∙ sym (at_place f room xs p some k (within l k v h) x w) ∙ ap (λ r. get_or r k w) v
+      ∙ sym (at_index f room xs p some k (within l k v h) x w) ∙ ap (λ r. get_or r k w) v
 
   pub item_put : (some : 0 < room) (l : List T) (k r : ℕ) (x y : X) (w : T) → flat_map f xs ≡ l → k < length l → r ≡ room → x ≡ get_or xs (k / r) x → f y ≡ set (f x) (k % r) w → flat_map f (set xs (k / r) y) ≡ set l k w
   item_put some l k r x y w v h e is done =
       let at : x ≡ get_or xs (k / room) x = is ∙ ap (λ n. get_or xs (k / n) x) e in
       ap (λ n. flat_map f (set xs (k / n) y)) e
-      ∙ put_place f room xs p some k (within l k v h) y x w (done ∙ ap (λ n. set (f x) (k % n) w) e ∙ ap (λ z. set (f z) (k % room) w) at)
+      ∙ put_index f room xs p some k (within l k v h) y x w (done ∙ ap (λ n. set (f x) (k % n) w) e ∙ ap (λ z. set (f z) (k % room) w) at)
       ∙ ap (λ r. set r k w) v
 
   -- one piece, the i-th, is y in place of x

@@ -1,4 +1,4 @@
--- What stands in a list in which one place was written, by `slice_get`.
+-- What stands in a list that was written at one index, by `slice_get`.
 use Rattle.std.proofs.Common.{◌≡◌, ℕ, suc, zero, Some, ◌<◌, List, [], ◌∷◌, length, set, refl, ap, arith}
 use Rattle.std.specs.List.{slice_get}
 

@@ -85,16 +85,16 @@ module _ {X T : Type 0} (f : X → List T) where
         )
 
     module _ (xs : List X) (p : IsPacked f room xs) (some_room : 0 < room) (k : ℕ) (within : k < length (flat_map f xs)) where
-      -- place k lies in piece k / room
+      -- the item at index k lies in piece k / room
       pub in_piece : k / room < length xs
       in_piece = elim (cases_lt (k / room) (length xs)) as (λ _. k / room < length xs) [
         | inl h ↦ h
         | inr h ↦ absurd (omega (arith, mul-le-mul_right room h, div-add-mod' k room, bound xs p, within))
       ]
 
-      -- at its place k % room
-      pub in_place : (d : X) → k % room < length (f (get_or xs (k / room) d))
-      in_place d =
+      -- there, at index k % room
+      pub in_range : (d : X) → k % room < length (f (get_or xs (k / room) d))
+      in_range d =
           let small : k % room < room = mod-lt k some_room in
           let h = in_piece in
           elim (cases_lt (k / room + 1) (length xs)) as (λ _. k % room < length (f (get_or xs (k / room) d))) [
@@ -103,14 +103,14 @@ module _ {X T : Type 0} (f : X → List T) where
           ]
 
       -- what stands there
-      pub at_place : (d : X) (e : T) → get_or (flat_map f xs) k e ≡ get_or (f (get_or xs (k / room) d)) (k % room) e
-      at_place d e =
+      pub at_index : (d : X) (e : T) → get_or (flat_map f xs) k e ≡ get_or (f (get_or xs (k / room) d)) (k % room) e
+      at_index d e =
           ap (λ n. get_or (flat_map f xs) n e) (sym (div-add-mod' k room) ∙ ap (λ n. n + k % room) (sym (before xs p (k / room) in_piece)))
-          ∙ get_or-flat_map f xs (k / room) (k % room) d e in_piece (in_place d)
+          ∙ get_or-flat_map f xs (k / room) (k % room) d e in_piece (in_range d)
 
       -- a write there
-      pub put_place : (y d : X) (v : T) → f y ≡ set (f (get_or xs (k / room) d)) (k % room) v → flat_map f (set xs (k / room) y) ≡ set (flat_map f xs) k v
-      put_place y d v e =
+      pub put_index : (y d : X) (v : T) → f y ≡ set (f (get_or xs (k / room) d)) (k % room) v → flat_map f (set xs (k / room) y) ≡ set (flat_map f xs) k v
+      put_index y d v e =
           let i = k / room in
           let front = flat_map f (take i xs) in
           let old = f (get_or xs i d) in
@@ -119,7 +119,7 @@ module _ {X T : Type 0} (f : X → List T) where
           let here : k - length front ≡ k % room = omega (arith, long, div-add-mod' k room) in
           written xs i y in_piece
           ∙ ap (λ r. front ++ (r ++ back)) e
-          ∙ ap (λ r. front ++ r) (sym (set-append_left old back (k % room) v (in_place d)))
+          ∙ ap (λ r. front ++ r) (sym (set-append_left old back (k % room) v (in_range d)))
           ∙ ap (λ n. front ++ set (old ++ back) n v) (sym here)
           ∙ sym (set-append_right front (old ++ back) (length front) k v refl (omega (arith, long, div-add-mod' k room)))
           ∙ ap (λ r. set r k v) (sym (cut xs i d in_piece))

@@ -9,8 +9,8 @@ use crate::page::Page;
 use std::alloc::{AllocError, Global};
 use std::sync::Arc;
 
-/// Puts a copy in the place of a page that others share. A function of its own that takes no entry,
-/// so that a write in place keeps none ready for it.
+// Puts a copy where a page was that others share. A function of its own that takes no entry, so that
+// a write in place keeps none ready for it.
 #[cold]
 #[inline(never)]
 fn copy_kid<T: Clone, P: Page<T>>(alloc: Global, kid: &mut Arc<P>) -> Result<(), AllocError>
@@ -22,8 +22,8 @@ fn copy_kid<T: Clone, P: Page<T>>(alloc: Global, kid: &mut Arc<P>) -> Result<(),
     Ok(())
 }
 
-/// Makes a page its holder's alone, by a copy where others share it. Once that is done, no count can
-/// rise while the page is borrowed, so the changes below meet no `None`.
+// Makes a page its holder's alone, by a copy where others share it. Once that is done, no count can
+// rise while the page is borrowed, so the changes below meet no `None`.
 #[inline(always)]
 fn own_kid<T: Clone, P: Page<T>>(alloc: Global, kid: &mut Arc<P>) -> Result<(), AllocError>
     requires clones { (x y : T) → T.is_clone x y → y ≡ x }

@@ -32,7 +32,7 @@ impl<T: Clone> Second<T> {
         }
     }
 
-    /// The same list, on the same pages.
+    /// Another version of the list, on its pages.
     pub(crate) fn shared(&self) -> Result<Second<T>, AllocError>
         ensures { IfOk result (λ p. p ≡ self.now) }
     {
@@ -114,7 +114,7 @@ impl<T: Clone> Third<T> {
         })
     }
 
-    /// The same list, on the same pages.
+    /// Another version of the list, on its pages.
     pub(crate) fn shared(&self) -> Result<Third<T>, AllocError>
         ensures { IfOk result (λ p. p ≡ self.now) }
     {
@@ -196,7 +196,7 @@ impl<T: Clone> Fourth<T> {
         })
     }
 
-    /// The same list, on the same pages.
+    /// Another version of the list, on its pages.
     pub(crate) fn shared(&self) -> Result<Fourth<T>, AllocError>
         ensures { IfOk result (λ p. p ≡ self.now) }
     {

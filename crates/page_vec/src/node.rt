@@ -64,7 +64,7 @@ impl<T: Clone, P: Page<T>> Node<T, P> {
         Node::over(alloc, P::single(alloc, value)?)
     }
 
-    /// The same list, on the same pages.
+    /// Another version of the list, on its pages.
     pub(crate) fn shared(&self) -> Result<Node<T, P>, AllocError>
         ensures { IfOk result (λ n. n ≡ self.now) }
     {
@@ -75,6 +75,7 @@ impl<T: Clone, P: Page<T>> Node<T, P> {
         })
     }
 
+    /// How many entries it has.
     #[inline(always)]
     pub(crate) fn len(&self) -> u32
         ensures len { result ≡ length self.now }
@@ -83,6 +84,7 @@ impl<T: Clone, P: Page<T>> Node<T, P> {
         self.len
     }
 
+    /// The entry at `k`.
     #[inline(always)]
     pub(crate) fn get(&self, k: u32) -> &T
         requires { k < length self.now }
@@ -93,6 +95,7 @@ impl<T: Clone, P: Page<T>> Node<T, P> {
         kid.get(k % room)
     }
 
+    /// Writes the entry at `k`.
     #[inline(always)]
     pub(crate) fn set(&mut self, k: u32, value: T) -> Result<(), AllocError>
         requires there { k < length self.old }
@@ -106,6 +109,7 @@ impl<T: Clone, P: Page<T>> Node<T, P> {
         Ok(())
     }
 
+    /// Adds an entry at the end.
     pub(crate) fn push(&mut self, value: T) -> Result<(), AllocError>
         requires fits { length self.old < min (64 * P.room) (2 ^ 30) }
         requires clones { (x y : T) → T.is_clone x y → y ≡ x }

@@ -24,6 +24,7 @@ impl<T> Model for Shared<T> {
 }
 
 impl<T> Shared<T> {
+    /// Puts the value behind a reference. Takes memory for it.
     pub fn new(alloc: Global, value: T) -> Result<Shared<T>, AllocError>
     where
         T: Drop,
@@ -34,10 +35,17 @@ impl<T> Shared<T> {
         })
     }
 
+    /// The value.
     pub fn get(&self) -> &T
         ensures { result.now ≡ self.now }
     {
         &self.arc
+    }
+
+    /// How many pages have the value.
+    #[cfg(test)]
+    pub(crate) fn holders(&self) -> usize {
+        Arc::strong_count(&self.arc)
     }
 }
 

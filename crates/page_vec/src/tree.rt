@@ -26,6 +26,7 @@ impl<T: Clone> Tree<T> {
         Tree::Second(Second::empty(alloc))
     }
 
+    /// How many entries it has.
     #[inline(always)]
     pub(crate) fn len(&self) -> u32
         ensures len { result ≡ length (items_of self.now) }
@@ -39,6 +40,7 @@ impl<T: Clone> Tree<T> {
         }
     }
 
+    /// The entry at `k`.
     #[inline(always)]
     pub(crate) fn get(&self, k: u32) -> &T
         requires { k < length (items_of self.now) }
@@ -52,6 +54,7 @@ impl<T: Clone> Tree<T> {
         }
     }
 
+    /// Writes the entry at `k`.
     #[inline(always)]
     pub(crate) fn set(&mut self, k: u32, value: T) -> Result<(), AllocError>
         requires there { k < length (items_of self.old) }
@@ -67,6 +70,7 @@ impl<T: Clone> Tree<T> {
         }
     }
 
+    // Whether the levels that it has take one entry more.
     fn has_room(&self) -> bool
         ensures { IsTrue result ↔ (length (items_of self.now) < room_of self.now) }
     {
@@ -78,7 +82,7 @@ impl<T: Clone> Tree<T> {
         }
     }
 
-    /// Adds an entry to pages that have room for it.
+    // Adds an entry to pages that have room for it.
     fn add(&mut self, value: T) -> Result<(), AllocError>
         requires fits { length (items_of self.old) < room_of self.old }
         requires clones { (x y : T) → T.is_clone x y → y ≡ x }
@@ -93,7 +97,7 @@ impl<T: Clone> Tree<T> {
         }
     }
 
-    /// The same list with a level more.
+    // This list, with a level more.
     fn raised(&self, alloc: Global) -> Result<Tree<T>, AllocError>
         requires full { room_of self.now ≤ length (items_of self.now) }
         requires fits { length (items_of self.now) < 2 ^ 30 }
@@ -107,6 +111,7 @@ impl<T: Clone> Tree<T> {
         }
     }
 
+    /// Adds an entry at the end, with a level more where the pages are full.
     pub(crate) fn push(&mut self, alloc: Global, value: T) -> Result<(), AllocError>
         requires fits { length (items_of self.old) < 2 ^ 30 }
         requires clones { (x y : T) → T.is_clone x y → y ≡ x }
@@ -123,7 +128,7 @@ impl<T: Clone> Tree<T> {
         Ok(())
     }
 
-    /// The same list, on the same pages.
+    /// Another version of the list, on its pages.
     pub(crate) fn shared(&self) -> Result<Tree<T>, AllocError>
         ensures { IfOk result (λ t. items_of t ≡ items_of self.now) }
     {

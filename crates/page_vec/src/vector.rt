@@ -3,11 +3,11 @@
 ghost use Rattle.std.specs.Prelude.{◌≡◌, ◌+◌, ◌<◌, ◌≤◌, ◌^◌, [], ◌∷◌, ◌++◌, length, slice_get, slice_set, IfOk, OnOk, OnErr};
 ghost use Rattle.std.specs.Option.{option_copied};
 
+use crate::steps::Steps;
 use crate::tree::Tree;
 use std::alloc::{AllocError, Global};
 use std::marker::Model;
 use std::sync::ledger::Ledger;
-use step_counter::Steps;
 
 /// A persistent vector of at most 2^30 entries: a list on pages of 64 behind `Arc`, which versions
 /// of it share. A version costs one short vector, and a change of it copies only the pages on the
@@ -30,7 +30,7 @@ impl<T: Clone> Model for PageVec<T> {
 impl<T: Clone> PageVec<T> {
     /// The vector of no entry. It takes no memory.
     pub fn empty(alloc: Global) -> PageVec<T>
-        ensures { result ≡ [] }
+        ensures empty { result ≡ [] }
     {
         PageVec {
             alloc,
@@ -38,6 +38,7 @@ impl<T: Clone> PageVec<T> {
         }
     }
 
+    /// How many entries it has.
     pub fn len(&self) -> u32
         ensures len { result ≡ length self.now }
         ensures bound { result ≤ 2 ^ 30 }
@@ -89,9 +90,9 @@ impl<T: Clone> PageVec<T> {
         self.tree.push(self.alloc, value)
     }
 
-    /// Another version of the same list, on the same pages.
+    /// Another version of the list, on its pages.
     pub fn share(&self) -> Result<PageVec<T>, AllocError>
-        ensures { IfOk result (λ v. v ≡ self.now) }
+        ensures same { IfOk result (λ v. v ≡ self.now) }
     {
         Ok(PageVec {
             alloc: self.alloc,

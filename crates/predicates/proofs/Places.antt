@@ -1,4 +1,4 @@
--- Corners that are places: what is inside is told by the places.
+-- Corners that are places: what is inside is decided by the places.
 use Rattle.std.proofs.Common.{◌≡◌}
 use Rattle.ground_model.specs.declared.corner.Corner.{Corner}
 use Rattle.ground_model.specs.declared.corner.Corner.TheVariants.{At, Far}

@@ -9,7 +9,7 @@ use Rattle.ground_model.specs.Lifted.{is_below}
 use Rattle.ground_model.proofs.Ring.{num, ◌⊖◌, ring, mul-neg}
 use Rattle.ground_model.proofs.Circle.{env, sideE, in_circle_sumE, side-turned, side-same, no_three, same_coords}
 use Rattle.ground_model.proofs.Lifted.{inside_positive}
-use Rattle.ground_model.proofs.Ties.{tie_at_a, tie_at_d}
+use Rattle.ground_model.proofs.Ties.{tie_at_a, tie_at_d, turns_of_left}
 use Rattle.predicates.specs.Laws.{NeverTies}
 
 -- the lifted d is in the plane of the lifted a, b, c
@@ -113,24 +113,27 @@ none_least : (ka kb kc kd : ℕ) → ka ≢ kb → ka ≢ kc → ka ≢ kd → k
 none_least ka kb kc kd ab ac ad bc bd cd at_a at_b at_c at_d = grind arith
 
 pub never_ties : NeverTies
-never_ties a b c d p h e =
+never_ties a b c d p left h e =
     none_least (code a) (code b) (code c) (code d)
-    (apart a b p.a_in p.b_in (turn_apart a b c h.turns))
+    (apart a b p.a_in p.b_in (turn_apart a b c turns))
     (apart a c p.a_in p.c_in (λ k. turn_apart c a b turns_c (sym k)))
     (apart a d p.a_in p.d_in (λ k. h.not_a (sym k)))
     (apart b c p.b_in p.c_in (turn_apart b c a turns_b))
     (apart b d p.b_in p.d_in (λ k. h.not_b (sym k)))
     (apart c d p.c_in p.d_in (λ k. h.not_c (sym k)))
-    (not_least a b c d p e (some a b c d p e h.turns h.not_b h.not_c))
+    (not_least a b c d p e (some a b c d p e turns h.not_b h.not_c))
     (not_least b c a d at_b e_b (some b c a d at_b e_b turns_b h.not_c h.not_a))
     (not_least c a b d at_c e_c (some c a b d at_c e_c turns_c h.not_a h.not_b))
-    (λ la lb lc. differ (sym (tie_at_d a b c d p (sum_is_zero a b c d p e) h.turns la lb lc) ∙ tied-outside a b c d e))
+    (λ la lb lc. differ (sym (tie_at_d a b c d p (sum_is_zero a b c d p e) turns la lb lc) ∙ tied-outside a b c d e))
   where
+    turns : pos 0 <ℤ side a b c
+    turns = turns_of_left a b c left
+
     differ : true ≡ false → ⊥
     differ h = cc
 
     turns_b : pos 0 <ℤ side b c a
-    turns_b = along _ _ (side-turned a b c) h.turns
+    turns_b = along _ _ (side-turned a b c) turns
       where
         along : (x y : ℤ) → x ≡ y → pos 0 <ℤ x → pos 0 <ℤ y
         along x y e h = omega (arith, ints, e)

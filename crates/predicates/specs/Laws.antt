@@ -1,17 +1,16 @@
 -- What holds of any four places.
-use Rattle.std.specs.Prelude.{◌≢◌, pos, ◌+ℤ◌, ◌*ℤ◌, ◌<ℤ◌}
+use Rattle.std.specs.Prelude.{◌≢◌, ◌+ℤ◌, ◌*ℤ◌, IsTrue}
 use Rattle.ground_model.specs.Place.{Coords, ArePlaces}
-use Rattle.ground_model.specs.Side.{side}
+use Rattle.ground_model.specs.Side.{side, is_left}
 use Rattle.ground_model.specs.Height.{height}
 
--- a, b, c are counterclockwise, and d is none of them
-pub record AreDistinct (a b c d : Coords) : Type 0 where
-  pub turns : pos 0 <ℤ side a b c
-  pub not_a : d ≢ a
-  pub not_b : d ≢ b
-  pub not_c : d ≢ c
+-- p is none of a, b, c
+pub record IsNoneOf (a b c p : Coords) : Type 0 where
+  pub not_a : p ≢ a
+  pub not_b : p ≢ b
+  pub not_c : p ≢ c
 
--- the lifted d is never in the plane of the lifted a, b, c
+-- the lifted d is never in the plane of the lifted a, b, c, which are counterclockwise
 abbrev pub NeverTies : Type 0
-NeverTies = (a b c d : Coords) → ArePlaces a b c d → AreDistinct a b c d
+NeverTies = (a b c d : Coords) → ArePlaces a b c d → IsTrue (is_left a b c) → IsNoneOf a b c d
     → height d *ℤ side a b c ≢ height a *ℤ side b c d +ℤ height b *ℤ side c a d +ℤ height c *ℤ side a b d

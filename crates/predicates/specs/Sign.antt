@@ -9,3 +9,9 @@ abbrev pub sign : Ordering → Sign
 sign Less = Negative
 sign Equal = Zero
 sign Greater = Positive
+
+-- how a number of this sign compares with zero
+abbrev pub order : Sign → Ordering
+order Negative = Less
+order Zero = Equal
+order Positive = Greater

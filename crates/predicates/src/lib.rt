@@ -3,6 +3,7 @@
 #![tactic(auto)]
 
 mod circle;
+mod corner;
 mod crossing;
 mod laws;
 mod sides;
@@ -11,11 +12,12 @@ mod triangle;
 mod vector;
 mod wall;
 
-pub use circle::in_circle;
+pub use circle::is_inside;
+pub use corner::{in_circle, side};
 pub use crossing::crosses;
 pub use ground_model::Corner;
 pub use laws::tie_law;
-pub use sides::{exact_side, side};
+pub use sides::{exact_side, orientation};
 pub use sign::Sign;
 pub use triangle::{holds, triangle_holds};
 pub use wall::walled;

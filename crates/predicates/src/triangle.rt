@@ -3,7 +3,7 @@
 ghost use Rattle.std.specs.Prelude.{◌≡◌};
 ghost use Rattle.ground_model.specs.Side.{holds as holds_of};
 
-use crate::sides::orientation;
+use crate::sides::turns_right;
 use ground_model::{Facet, Place};
 
 /// Whether p lies in the closed triangle of the facet: inside, on an edge or at a corner.
@@ -14,10 +14,10 @@ pub fn holds(facet: &Facet, p: Place) -> bool
     triangle_holds(facet.a, facet.b, facet.c, p)
 }
 
-/// The same of three places that are counterclockwise.
+/// Whether p lies in the closed triangle of a, b, c, which are counterclockwise.
 #[inline]
 pub fn triangle_holds(a: Place, b: Place, c: Place, p: Place) -> bool
     ensures { result ≡ holds_of a b c p }
 {
-    !orientation(a, b, p).is_lt() && !orientation(b, c, p).is_lt() && !orientation(c, a, p).is_lt()
+    !turns_right(a, b, p) && !turns_right(b, c, p) && !turns_right(c, a, p)
 }

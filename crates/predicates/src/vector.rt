@@ -1,4 +1,4 @@
-//! Vectors: the way from one place to another.
+//! Vectors between places.
 
 ghost use Rattle.std.specs.Prelude.{◌≡◌, ◌+ℤ◌, ◌-ℤ◌, ◌*ℤ◌, ◌≤◌, ◌^◌, unsigned_abs};
 
@@ -14,14 +14,15 @@ pub struct Vector {
 }
 
 impl Vector {
+    /// The way from one place to another.
     #[inline(always)]
     pub fn between(from: Place, to: Place) -> Vector
         ensures e { result.e ≡ to.e -ℤ from.e }
         ensures n { result.n ≡ to.n -ℤ from.n }
     {
         Vector {
-            e: i64::from(to.e()) - i64::from(from.e()),
-            n: i64::from(to.n()) - i64::from(from.n()),
+            e: gap(from.e(), to.e()),
+            n: gap(from.n(), to.n()),
         }
     }
 
@@ -44,6 +45,18 @@ impl Vector {
     }
 }
 
+// The difference of two coordinates.
+#[inline(always)]
+fn gap(from: i32, to: i32) -> i64
+    requires from { unsigned_abs from ≤ 2 ^ 29 }
+    requires to { unsigned_abs to ≤ 2 ^ 29 }
+    ensures value { result ≡ to -ℤ from }
+    ensures size { unsigned_abs result ≤ 2 ^ 30 }
+{
+    i64::from(to) - i64::from(from)
+}
+
+// A product, with its size.
 #[inline(always)]
 fn times(x: i64, y: i64) -> i64
     requires x { unsigned_abs x ≤ 2 ^ 30 }

@@ -18,8 +18,8 @@ pub fn lies_in(place: Tripled, ring: &Line) -> bool
         .fold(false, |is_odd, _| !is_odd)
 }
 
-/// Whether the ray to the east crosses the link: just one end lies north of the place, which lies
-/// left of the link, taken northwards.
+// Whether the ray to the east crosses the link: just one end lies north of the place, which lies
+// left of the link, taken northwards.
 fn crosses_ray(place: Tripled, from: Place, to: Place) -> bool
     ensures { result ≡ crosses_ray_of place (triple from, triple to) }
 {

@@ -9,7 +9,7 @@ use std::test::Fail;
 
 type At = (i32, i32);
 
-/// The farthest coordinate.
+// The farthest coordinate.
 const L: i32 = 536_870_912;
 
 fn place(rt: &impl Abort, at: At) -> Place {
@@ -27,7 +27,7 @@ fn facet(rt: &impl Abort, a: At, b: At, c: At) -> Facet {
     }
 }
 
-/// The line that a letter of a row stands for. A ring does not repeat its first place.
+// The line that a letter of a row stands for. A ring does not repeat its first place.
 fn line(letter: u8) -> (LineKind, &'static [At]) {
     match letter {
         // a square of 100, and squares of 60 and of 20 in its middle
@@ -52,7 +52,7 @@ fn line(letter: u8) -> (LineKind, &'static [At]) {
             LineKind::Outer,
             &[(0, 0), (100, 0), (50, 50), (100, 100), (0, 100), (50, 50)],
         ),
-        // a square with four places in line on its west side
+        // a square with four collinear places on its west side
         b'S' => (
             LineKind::Outer,
             &[(0, 0), (100, 0), (100, 100), (0, 100), (0, 60), (0, 30)],
@@ -81,7 +81,7 @@ fn add(rt: &impl Abort, lines: &mut Lines, kind: LineKind, places: Places) {
     assert!(rt; lines.add(kind, places).is_ok());
 }
 
-/// The lines of the letters, numbered from 1.
+// The lines of the letters, numbered from 1.
 fn table(rt: &impl Abort, alloc: Global, letters: &str) -> Result<Lines, AllocError> {
     let mut lines = Lines::empty(alloc);
     for letter in letters.as_bytes() {
@@ -91,11 +91,24 @@ fn table(rt: &impl Abort, alloc: Global, letters: &str) -> Result<Lines, AllocEr
     Ok(lines)
 }
 
-/// A facet whose centre is the place.
+// A facet whose centre is the place.
 fn facet_round(rt: &impl Abort, at: At) -> Facet {
     let (e, n) = at;
     assert!(rt; -1000 < e && e < 1000 && -1000 < n && n < 1000);
     facet(rt, (e - 1, n - 1), (e + 2, n - 1), (e - 1, n + 2))
+}
+
+fn check(
+    rt: &impl Abort,
+    alloc: Global,
+    name: &str,
+    letters: &str,
+    facet: Facet,
+    want: bool,
+) -> Result<(), AllocError> {
+    let lines = table(rt, alloc, letters)?;
+    assert_eq!(rt; kept(&lines, &facet), want, "{name}");
+    Ok(())
 }
 
 #[test]
@@ -131,8 +144,8 @@ fn the_last_void_or_island_round_the_centre_decides(rt: HostRuntime) -> Result<(
         ("in the north of an hourglass", "H", (50, 80), true),
         ("west of its waist", "H", (20, 50), false),
         ("east of its waist", "H", (80, 50), false),
-        ("level with a place in line", "S", (50, 30), true),
-        ("west of four places in line", "S", (-10, 30), false),
+        ("level with a collinear place", "S", (50, 30), true),
+        ("west of four collinear places", "S", (-10, 30), false),
         ("level with two corners", "D", (50, 50), true),
         ("west of two corners", "D", (-10, 50), false),
         ("east of two corners", "D", (110, 50), false),
@@ -143,8 +156,7 @@ fn the_last_void_or_island_round_the_centre_decides(rt: HostRuntime) -> Result<(
         ("a breakline in a void", "VB", (50, 50), false),
     ];
     for (name, letters, at, want) in cases {
-        let lines = table(&rt, rt.alloc(), letters)?;
-        assert_eq!(rt; kept(&lines, &facet_round(&rt, at)), want, "{name}");
+        check(&rt, rt.alloc(), name, letters, facet_round(&rt, at), want)?;
     }
     Ok(())
 }
@@ -159,10 +171,8 @@ fn centres_are_exact_to_the_limit(rt: HostRuntime) -> Result<(), Fail> {
         // its side of the longest link is more than 64 bits hold
         ("far", "T", [(L - 1, -L), (L, -L), (L, 1 - L)], false),
     ];
-    for (name, letters, corners, want) in cases {
-        let lines = table(&rt, rt.alloc(), letters)?;
-        let [a, b, c] = corners;
-        assert_eq!(rt; kept(&lines, &facet(&rt, a, b, c)), want, "{name}");
+    for (name, letters, [a, b, c], want) in cases {
+        check(&rt, rt.alloc(), name, letters, facet(&rt, a, b, c), want)?;
     }
     Ok(())
 }

@@ -41,6 +41,7 @@ impl Tripled {
         }
     }
 
+    /// A place in these units.
     pub fn place(place: Place) -> Tripled
         ensures { result ≡ triple place }
     {
@@ -50,6 +51,7 @@ impl Tripled {
         }
     }
 
+    /// Whether its northing is less.
     pub fn is_south_of(self, other: Tripled) -> bool
         ensures { result ≡ int_lt self.n other.n }
     {
@@ -74,8 +76,8 @@ fn sum(x: i32, y: i32, z: i32) -> i64
     i64::from(x) + i64::from(y) + i64::from(z)
 }
 
-/// Twice the signed area of the triangle, in ninths of a square thousandth. It can be 9 * 2^60,
-/// which is more than 64 bits hold.
+// Twice the signed area of the triangle, in ninths of a square thousandth. It can be 9 * 2^60,
+// which is more than 64 bits hold.
 fn side(a: Tripled, b: Tripled, c: Tripled) -> i128
     ensures value { result ≡ side_of a b c }
     ensures size { unsigned_abs result ≤ 2 ^ 65 }

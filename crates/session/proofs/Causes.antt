@@ -6,7 +6,8 @@ use Rattle.std.proofs.lemmas.Bool.{ltb-true}
 use Rattle.std.proofs.lemmas.Slice.Zip.{length-zip}
 use Rattle.std.proofs.lemmas.Iterator.Adapters.{position_from-zero}
 use Rattle.ground_model.specs.declared.refusal.Refusal.{Refusal}
-use Rattle.ground_model.specs.Line.{Line, is_ring, links}
+use Rattle.ground_model.specs.Line.{Line, links}
+use Rattle.ground_model.specs.Kind.{is_ring}
 use Rattle.ground_model.specs.Refusal.{first_of}
 
 -- ---- the first of some causes
@@ -47,7 +48,7 @@ shifted test n i (x ∷ xs) = at (test x) (ap (λ m. position_from test m xs) (o
 pub position-from : {X : Type 0} (test : X → Bool) (n : ℕ) (xs : List X) → position_from test n xs ≡ option_map (λ k. k + n) (position test xs)
 position-from test n xs = ap (λ m. position_from test m xs) (omega arith) ∙ shifted test n 0 xs ∙ ap (option_map (λ k. k + n)) (sym (position_from-zero test xs))
 
--- the same, of what was searched as another list
+-- what was found, where the list that was searched equals another
 pub placed : {X : Type 0} (test : X → Bool) (seen xs : List X) (found : Option ℕ) → found ≡ position test seen → seen ≡ xs → position_from test 1 xs ≡ option_map (λ k. k + 1) found
 placed test seen xs found is same = position-from test 1 xs ∙ ap (option_map (λ k. k + 1)) (sym (is ∙ ap (position test) same))
 

@@ -1,15 +1,16 @@
 -- How a session ends, as one statement of the whole of it.
 use Rattle.std.proofs.Common.{◌≡◌, ℕ, ◌<◌, ◌≤◌, false, List, [], length, Option, sym, subst}
-use Rattle.std.specs.List.{All}
+use Rattle.std.specs.List.{All, flat_map}
 use Rattle.std.specs.Bool.{⊤}
 use Rattle.std.specs.Io.KnownBytes.{Appends, Consumes, IsAtEnd}
 use Rattle.ground_model.specs.declared.entry.Entry.{Entry}
 use Rattle.line_protocol.specs.declared.reply.Reply.{Reply}
 use Rattle.session.specs.Lines.{ended, unfinished, whole_lines}
-use Rattle.session.specs.Setting.{Setting}
-use Rattle.session.specs.Transcript.{texts}
-use Rattle.session.specs.Talk.{line_limit, up_to_quit, has_quit, IsOpen, AreTaken, AreWritten, IsEnding, Talk}
-use Rattle.session.specs.Talking.{IsStop, Talking, Stops}
+use Rattle.ground_io.specs.Wires.{WireView}
+use Rattle.turn_lock.specs.Setting.{Setting}
+use Rattle.session.specs.Texts.{text_at}
+use Rattle.session.specs.Talk.{line_limit, up_to_quit, has_quit, IsOpen, AreTaken, AreWritten, IsEnding, State, Talk}
+use Rattle.session.specs.Talking.{Start, Output, sitting, IsStop, Talking, Stops}
 use Rattle.session.specs.declared.conversation.Ended.{Ended}
 use Rattle.session.specs.declared.conversation.Ended.TheVariants.{Quit, End, Cut, LongLine, Spent, ReadFault, WriteFault, Memory}
 use Rattle.session.proofs.Quits.{has_quit_none, quit_is_none}
@@ -37,67 +38,84 @@ plain_taken Spent p ls none = sym (has_quit_none ls none)
 plain_taken ReadFault p ls none = sym (has_quit_none ls none)
 plain_taken Memory p ls none = sym (has_quit_none ls none)
 
-plain_told : (set : Setting) (end : Ended) → IsPlain end → (old new : Option (List ℕ)) (replies : List Reply) → Appends old new (texts set replies) → AreWritten set old new replies end
+plain_written : (text : Reply → List ℕ) (end : Ended) → IsPlain end → (old new : Option (List ℕ)) (replies : List Reply) → Appends old new (flat_map text replies) → AreWritten text old new replies end
 unfolding IsPlain
-plain_told set Quit p old new replies a = absurd p
-plain_told set WriteFault p old new replies a = absurd p
-plain_told set End p old new replies a = a
-plain_told set Cut p old new replies a = a
-plain_told set LongLine p old new replies a = a
-plain_told set Spent p old new replies a = a
-plain_told set ReadFault p old new replies a = a
-plain_told set Memory p old new replies a = a
+plain_written text Quit p old new replies a = absurd p
+plain_written text WriteFault p old new replies a = absurd p
+plain_written text End p old new replies a = a
+plain_written text Cut p old new replies a = a
+plain_written text LongLine p old new replies a = a
+plain_written text Spent p old new replies a = a
+plain_written text ReadFault p old new replies a = a
+plain_written text Memory p old new replies a = a
 
-module _ (set : Setting) (author budget : ℕ) (first h : List Entry) (read : List ℕ) (left left_now written written_now : Option (List ℕ))
-    (consumed : Consumes left left_now read) (within : length read ≤ budget) (short : All (λ (line : List ℕ). length line < line_limit) (ended read)) where
-  plain_end : (end : Ended) → IsPlain end → Talking set author first h read written written_now → IsEnding budget read left_now end → Talk set author first h budget left left_now written written_now end
+-- what is known of the output of a wire
+abbrev pub output_of : WireView → Output
+output_of w = record { written = w.written; order = w.order }
+
+-- the start of a session at this state
+abbrev pub start_of : Setting → ℕ → State → Start
+start_of set author before = record { setting = set; author = author; first = before.entries; output = output_of before.wire }
+
+module _ (set : Setting) (author budget : ℕ) (before after : State) (read : List ℕ)
+    (consumed : Consumes before.wire.left after.wire.left read) (within : length read ≤ budget) (short : All (λ (line : List ℕ). length line < line_limit) (ended read)) where
+  b : Start
+  b = start_of set author before
+
+  plain_end : (end : Ended) → IsPlain end → Talking (start_of set author before) after.entries (output_of after.wire) read read → IsEnding budget read after.wire.left end → Talk (sitting (start_of set author before)) budget before after end
+  unfolding b
   plain_end end plain t ending = record {
     read = read;
     lines = whole_lines read;
     replies = t.replies;
+    events = t.events;
     consumed = consumed;
     within = within;
     short = short;
     taken = plain_taken end plain (whole_lines read) t.no_quit;
-    transcript = transcript_of set author first h (whole_lines read) t.replies t.going (quit_is_none (whole_lines read) t.no_quit);
+    transcript = transcript_of b after.entries (whole_lines read) t.replies t.going (quit_is_none (whole_lines read) t.no_quit);
     begins = t.going.begins;
     alone = t.going.alone;
-    told = plain_told set end plain written written_now t.replies t.told;
+    written = plain_written (text_at set after.entries) end plain before.wire.written after.wire.written t.replies t.written;
+    ordered = t.ordered;
+    received = t.received;
+    in_time = t.in_time;
     ending = ending;
   }
 
-  open_so_far : Talking set author first h read written written_now → length (unfinished read) < line_limit → IsOpen read
+  open_so_far : Talking (start_of set author before) after.entries (output_of after.wire) read read → length (unfinished read) < line_limit → IsOpen read
   open_so_far t below = record { no_quit = t.no_quit; short = below }
 
-  pub ends_memory : Talking set author first h read written written_now → read ≡ [] → Talk set author first h budget left left_now written written_now Memory
+  pub ends_memory : Talking (start_of set author before) after.entries (output_of after.wire) read read → read ≡ [] → Talk (sitting (start_of set author before)) budget before after Memory
   unfolding IsPlain
   ends_memory t is = plain_end Memory tt t is
 
-  pub ends_fault : Talking set author first h read written written_now → length (unfinished read) < line_limit → length read < budget → Talk set author first h budget left left_now written written_now ReadFault
+  pub ends_fault : Talking (start_of set author before) after.entries (output_of after.wire) read read → length (unfinished read) < line_limit → length read < budget → Talk (sitting (start_of set author before)) budget before after ReadFault
   unfolding IsPlain
   ends_fault t short_line below = plain_end ReadFault tt t (open_so_far t short_line, below)
 
-  pub ends_end : Talking set author first h read written written_now → length (unfinished read) < line_limit → unfinished read ≡ [] → length read < budget → IsAtEnd left_now → Talk set author first h budget left left_now written written_now End
+  pub ends_end : Talking (start_of set author before) after.entries (output_of after.wire) read read → length (unfinished read) < line_limit → unfinished read ≡ [] → length read < budget → IsAtEnd after.wire.left → Talk (sitting (start_of set author before)) budget before after End
   unfolding IsPlain
   ends_end t short_line none below at_end = plain_end End tt t (open_so_far t short_line, none, below, at_end)
 
-  pub ends_cut : Talking set author first h read written written_now → length (unfinished read) < line_limit → (unfinished read ≡ [] → ⊥) → length read < budget → IsAtEnd left_now → Talk set author first h budget left left_now written written_now Cut
+  pub ends_cut : Talking (start_of set author before) after.entries (output_of after.wire) read read → length (unfinished read) < line_limit → (unfinished read ≡ [] → ⊥) → length read < budget → IsAtEnd after.wire.left → Talk (sitting (start_of set author before)) budget before after Cut
   unfolding IsPlain
   ends_cut t short_line some below at_end = plain_end Cut tt t (open_so_far t short_line, some, below, at_end)
 
-  pub ends_long : Talking set author first h read written written_now → length (unfinished read) ≡ line_limit → Talk set author first h budget left left_now written written_now LongLine
+  pub ends_long : Talking (start_of set author before) after.entries (output_of after.wire) read read → length (unfinished read) ≡ line_limit → Talk (sitting (start_of set author before)) budget before after LongLine
   unfolding IsPlain
   ends_long t long = plain_end LongLine tt t (t.no_quit, long)
 
-  pub ends_spent : Talking set author first h read written written_now → length (unfinished read) < line_limit → length read ≡ budget → Talk set author first h budget left left_now written written_now Spent
+  pub ends_spent : Talking (start_of set author before) after.entries (output_of after.wire) read read → length (unfinished read) < line_limit → length read ≡ budget → Talk (sitting (start_of set author before)) budget before after Spent
   unfolding IsPlain
   ends_spent t short_line all = plain_end Spent tt t (open_so_far t short_line, all)
 
-  pub ends_stopped : (end : Ended) → Stops set author first h read written written_now end → Talk set author first h budget left left_now written written_now end
+  pub ends_stopped : (end : Ended) → Stops (start_of set author before) after.entries (output_of after.wire) read end → Talk (sitting (start_of set author before)) budget before after end
   ends_stopped end s = record {
     read = read;
     lines = s.lines;
     replies = s.replies;
+    events = s.events;
     consumed = consumed;
     within = within;
     short = short;
@@ -105,11 +123,14 @@ module _ (set : Setting) (author budget : ℕ) (first h : List Entry) (read : Li
     transcript = s.transcript;
     begins = s.begins;
     alone = s.alone;
-    told = s.told;
+    written = s.written;
+    ordered = s.ordered;
+    received = s.received;
+    in_time = s.in_time;
     ending = stop_ending end s.ending;
   }
     where
-      stop_ending : (end : Ended) → IsStop (has_quit (whole_lines read)) end → IsEnding budget read left_now end
+      stop_ending : (end : Ended) → IsStop (has_quit (whole_lines read)) end → IsEnding budget read after.wire.left end
       stop_ending Quit e = e
       stop_ending WriteFault e = tt
       stop_ending End e = absurd e
@@ -120,8 +141,5 @@ module _ (set : Setting) (author budget : ℕ) (first h : List Entry) (read : Li
       stop_ending Memory e = absurd e
 
 -- a session that a line stopped was not ended by a failed read
-pub stops_by_line : (set : Setting) (author : ℕ) (first h : List Entry) (read : List ℕ) (written written_now : Option (List ℕ)) (end : Ended) → Stops set author first h read written written_now end → end ≡ ReadFault → ⊥
-stops_by_line set author first h read written written_now end s is = subst (λ (e : Ended). IsStop (has_quit (whole_lines read)) e) is s.ending
-
-pub stops_in : (set' set : Setting) (author : ℕ) (first h : List Entry) (read : List ℕ) (written written_now : Option (List ℕ)) (end : Ended) → set' ≡ set → Stops set' author first h read written written_now end → Stops set author first h read written written_now end
-stops_in set' set author first h read written written_now end es s = subst (λ (q : Setting). Stops q author first h read written written_now end) es s
+pub stops_by_line : (b : Start) (h : List Entry) (output : Output) (read : List ℕ) (end : Ended) → Stops b h output read end → end ≡ ReadFault → ⊥
+stops_by_line b h output read end s is = subst (λ (e : Ended). IsStop (has_quit (whole_lines read)) e) is s.ending

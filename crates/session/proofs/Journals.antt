@@ -16,7 +16,7 @@ use Rattle.ground_model.specs.Refusal.{refusal}
 use Rattle.ground_model.specs.Answer.{next_entry}
 use Rattle.ground_model.proofs.Contents.{places_total}
 use Rattle.session.specs.Stores.{IsSound}
-use Rattle.session.proofs.Turns.{legal_more}
+use Rattle.session.proofs.Exchanges.{legal_more}
 
 pub content_of-push : (h : List Entry) (x : Entry) → content_of (h ++ x ∷ []) ≡ after (content_of h) x.edit
 unfolding content_of
@@ -45,7 +45,7 @@ points-after c (SetLevel p z) = rw (finmap.len-insert places_total c.points p z)
 points-after c (AddLine kind places) = omega arith
 points-after c (RemoveLine id) = omega arith
 
-pub next-after : (c : Content) (edit : Edit) → (after c edit).next_line ≤ c.next_line + 1
+pub next-after : (c : Content) (edit : Edit) → (after c edit).table.next ≤ c.table.next + 1
 unfolding after
 next-after c (AddPoint p z) = omega arith
 next-after c (RemovePoint p) = omega arith

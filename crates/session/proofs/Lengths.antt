@@ -13,7 +13,7 @@ short_from n rest (b ∷ bytes) fits =
       | false ↦ short_from n (rest ++ b ∷ []) bytes (rw length-append (omega arith))
     ]
 
--- The lines of a stream stay short where a piece fits behind the line so far.
+-- The lines of a stream stay short where a piece fits after the line so far.
 pub short_more : (n : ℕ) (seen bytes : List ℕ) → All (λ (line : List ℕ). length line < n) (ended seen) → length (unfinished seen) + length bytes ≤ n → All (λ (line : List ℕ). length line < n) (ended (seen ++ bytes))
 short_more n seen bytes short fits = rw (ended_from-append [] seen bytes) (All-append (λ (line : List ℕ). length line < n) (ended seen) (ended_from (unfinished seen) bytes) short (short_from n (unfinished seen) bytes fits))
 

@@ -12,4 +12,5 @@ pub mod Reliefs
 pub mod Removals
 pub mod Sessions
 pub mod Streams
-pub mod Turns
+pub mod Exchanges
+pub mod Answering

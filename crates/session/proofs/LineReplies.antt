@@ -1,105 +1,129 @@
 -- From what a request did to what its line did.
-use Rattle.std.proofs.Common.{◌≡◌, ℕ, inl, inr, true, List, Option, None, Some, refl, sym, ap, ◌∙◌}
-use Rattle.std.specs.Prelude.{option_map, option_and_then, is_some}
-use Rattle.ground_num.specs.declared.head.Origin.{Origin}
+use Rattle.std.proofs.Common.{◌≡◌, ℕ, inl, inr, Bool, true, false, length, List, Option, None, Some, refl, sym, ap, ◌∙◌}
+use Rattle.std.specs.Prelude.{◌||◌, MatchOption, option_map, option_and_then, is_some, is_none}
 use Rattle.ground_model.specs.declared.edit.Edit.{Edit}
-use Rattle.ground_model.specs.declared.edit.Edit.TheVariants as edits
 use Rattle.ground_model.specs.declared.line.LineId.{LineId}
-use Rattle.ground_model.specs.declared.line.LineKind.{LineKind}
 use Rattle.ground_model.specs.declared.entry.Entry.{Entry}
+use Rattle.ground_model.specs.declared.limits.Limits.{Limits}
+use Rattle.ground_model.specs.Refusal.{refusal}
 use Rattle.ground_model.specs.declared.refusal.Refusal.{Refusal}
-use Rattle.ground_model.specs.Place.{Coords}
-use Rattle.ground_model.specs.Answer.{by_refusal, given_number}
+use Rattle.ground_model.specs.Answer.{Pending, by_refusal, given_number}
 use Rattle.ground_model.specs.History.{content_of}
 use Rattle.ground_model.proofs.Newest.{answer-newest}
 use Rattle.line_protocol.specs.declared.reply.Reply.{Reply}
-use Rattle.line_protocol.specs.declared.reply.Reply.TheVariants.{Done, Refused, Range, Memory}
+use Rattle.line_protocol.specs.declared.reply.Reply.TheVariants.{Done, Refused, Syntax, Range, Memory}
 use Rattle.line_protocol.specs.declared.request.Request.{Request}
 use Rattle.line_protocol.specs.declared.request.Request.TheVariants as asks
-use Rattle.line_protocol.specs.Spoken.{Spoken, AddPoint, RemovePoint, SetLevel, AddLine, RemoveLine, Sync, Plan, Commit, Apply, Level, Contour, Volume, Stat, Export, Quit}
+use Rattle.line_protocol.specs.Spoken.{Spoken}
 use Rattle.line_protocol.specs.Grammar.{spoken}
-use Rattle.line_protocol.specs.Within.{places_within, edit_within, request_within, request_of}
-use Rattle.line_protocol.specs.Reading.{takes_memory_early}
-use Rattle.session.specs.Setting.{Setting}
+use Rattle.line_protocol.specs.Fault.{IsFaultOffset}
+use Rattle.line_protocol.specs.Within.{request_within, request_of}
+use Rattle.line_protocol.specs.Reading.{has_places, takes_memory_early}
+use Rattle.turn_lock.specs.Setting.{Setting, setting}
+use Rattle.turn_lock.specs.declared.journal.Journal.{Journal}
 use Rattle.session.specs.declared.store.Applied.TheVariants as applied
-use Rattle.session.specs.Stores.{StoreView, setting, Applies}
+use Rattle.session.specs.Stores.{Applies}
 use Rattle.session.specs.Table.{to_edit}
-use Rattle.session.specs.Told.{Told, done_front}
-use Rattle.session.specs.Transcript.{may_lack_memory, IsAnswer, AnswersLine}
+use Rattle.session.specs.Told.{done_front}
+use Rattle.session.specs.Transcript.{IsFaultReply, takes_memory, IsAnswer, IsAnswerWithin, AnswersLine}
 use Rattle.session.specs.Talking.{Serves, ServesLine}
 
-answers_by : (set : Setting) (h : List Entry) (told : Told) (line : List ℕ) (s : Option Spoken) (request : Request) (reply : Reply) → option_and_then (request_within set.head.origin) s ≡ Some request
-    → ((s' : Spoken) → request_within set.head.origin s' ≡ Some request → IsAnswer set h told s' (request_within set.head.origin s') reply) → AnswersLine set h told line s reply
-answers_by set h told line None request reply e answer = cc
-answers_by set h told line (Some s) request reply e answer = answer s e
+-- the answer to a line, by what it spells
+by_spoken : (set : Setting) (h : List Entry) (pending : Option Pending) (line : List ℕ) (reply : Reply) → Option Spoken → Type 0
+by_spoken set h pending line reply s = MatchOption s (IsFaultReply line reply) (λ s. IsAnswerWithin set h pending (request_within set.head.origin s) reply)
+
+within_by : (set : Setting) (h : List Entry) (pending : Option Pending) (line : List ℕ) (reply : Reply) (s : Option Spoken) (request : Request) → option_and_then (request_within set.head.origin) s ≡ Some request → IsAnswer set h pending request reply → by_spoken set h pending line reply s
+unfolding by_spoken
+within_by set h pending line reply None request e answer = cc
+within_by set h pending line reply (Some s) request e answer = rw e answer
 
 -- a line's request was served
-pub serves_line : (author : ℕ) (old new : StoreView) (line : List ℕ) (request : Request) (reply : Reply) → request_of old.head.origin line ≡ Some request → Serves author old new request reply → ServesLine (setting old) author old.log new.log line reply
-serves_line author old new line request reply is serves = record {
-  is = λ told. answers_by (setting old) old.log told line (spoken line) request reply is (λ s within. rw within (serves.is told));
-  log = λ told. rw is (serves.log told);
+pub serves_line : (author : ℕ) (pending : Option Pending) (change : Journal × Journal) (line : List ℕ) (request : Request) (reply : Reply) → request_of change.0.head.origin line ≡ Some request → Serves author pending change request reply → ServesLine author pending change line reply
+unfolding by_spoken
+serves_line author pending change line request reply is serves = record {
+  is = within_by (setting change.0) change.0.entries pending line reply (spoken line) request is serves.is;
+  entries = rw is serves.entries;
+  stays = serves.stays;
 }
 
-unserved : (set : Setting) (author : ℕ) (h : List Entry) (line : List ℕ) (reply : Reply) → done_front reply ≡ None → ((told : Told) → AnswersLine set h told line (spoken line) reply) → ServesLine set author h h line reply
-unserved set author h line reply none is = record { is = is; log = λ told. rw none refl }
+unserved : (author : ℕ) (pending : Option Pending) (j : Journal) (line : List ℕ) (reply : Reply) → done_front reply ≡ None → AnswersLine (setting j) j.entries pending line reply → ServesLine author pending (j, j) line reply
+unserved author pending j line reply none is = record { is = is; entries = rw none refl; stays = refl }
 
-range_by : (set : Setting) (h : List Entry) (told : Told) (line : List ℕ) (s : Option Spoken) → is_some s ≡ true → option_and_then (request_within set.head.origin) s ≡ None → AnswersLine set h told line s Range
-range_by set h told line None there outside = cc
-range_by set h told line (Some s) there outside = rw outside (inl refl)
+range_by : (set : Setting) (h : List Entry) (pending : Option Pending) (line : List ℕ) (s : Option Spoken) → is_some s ≡ true → option_and_then (request_within set.head.origin) s ≡ None → by_spoken set h pending line Range s
+unfolding by_spoken
+range_by set h pending line None there outside = cc
+range_by set h pending line (Some s) there outside = rw outside refl
 
 -- a line whose request is outside its limits
-pub range_line : (set : Setting) (author : ℕ) (h : List Entry) (line : List ℕ) → is_some (spoken line) ≡ true → request_of set.head.origin line ≡ None → ServesLine set author h h line Range
-range_line set author h line there outside = unserved set author h line Range refl (λ told. range_by set h told line (spoken line) there outside)
+pub range_line : (author : ℕ) (pending : Option Pending) (j : Journal) (line : List ℕ) → is_some (spoken line) ≡ true → request_of j.head.origin line ≡ None → ServesLine author pending (j, j) line Range
+unfolding by_spoken
+range_line author pending j line there outside = unserved author pending j line Range refl (range_by (setting j) j.entries pending line (spoken line) there outside)
 
-plan_lacks : (o : Origin) (kind : LineKind) (ps : List Coords) (found : Option (List Coords)) → may_lack_memory (Plan (AddLine kind ps)) (option_map asks.Plan (option_map (edits.AddLine kind) found)) ≡ true
-plan_lacks o kind ps None = refl
-plan_lacks o kind ps (Some qs) = refl
+fault_by : (set : Setting) (h : List Entry) (pending : Option Pending) (line : List ℕ) (s : Option Spoken) (k : ℕ) → s ≡ None → IsFaultOffset line k → by_spoken set h pending line (Syntax k) s
+unfolding by_spoken
+fault_by set h pending line None k e at = (k, at, refl)
+fault_by set h pending line (Some s) k e at = cc
 
-apply_lacks : (o : Origin) (kind : LineKind) (ps : List Coords) (found : Option (List Coords)) → may_lack_memory (Apply (AddLine kind ps)) (option_map asks.Apply (option_map (edits.AddLine kind) found)) ≡ true
-apply_lacks o kind ps None = refl
-apply_lacks o kind ps (Some qs) = refl
+-- a line that is no request
+pub fault_line : (author : ℕ) (pending : Option Pending) (j : Journal) (line : List ℕ) (k : ℕ) → spoken line ≡ None → IsFaultOffset line k → ServesLine author pending (j, j) line (Syntax k)
+unfolding by_spoken
+fault_line author pending j line k none at = unserved author pending j line (Syntax k) refl (fault_by (setting j) j.entries pending line (spoken line) k none at)
 
-early_lacks : (o : Origin) (s : Spoken) → takes_memory_early s ≡ true → may_lack_memory s (request_within o s) ≡ true
-unfolding request_within edit_within
-early_lacks o (Plan (AddLine kind ps)) e = plan_lacks o kind ps (places_within o ps)
-early_lacks o (Apply (AddLine kind ps)) e = apply_lacks o kind ps (places_within o ps)
-early_lacks o (Plan (AddPoint p z)) e = cc
-early_lacks o (Plan (RemovePoint p)) e = cc
-early_lacks o (Plan (SetLevel p z)) e = cc
-early_lacks o (Plan (RemoveLine id)) e = cc
-early_lacks o (Apply (AddPoint p z)) e = cc
-early_lacks o (Apply (RemovePoint p)) e = cc
-early_lacks o (Apply (SetLevel p z)) e = cc
-early_lacks o (Apply (RemoveLine id)) e = cc
-early_lacks o Sync e = cc
-early_lacks o Commit e = cc
-early_lacks o (Level p) e = cc
-early_lacks o (Contour z) e = cc
-early_lacks o (Volume z) e = cc
-early_lacks o Stat e = cc
-early_lacks o Export e = cc
-early_lacks o Quit e = cc
+or_first : (x y : Bool) → x ≡ true → (x || y) ≡ true
+or_first true y e = refl
+or_first false y e = cc
 
-memory_by : (set : Setting) (h : List Entry) (told : Told) (line : List ℕ) (s : Option Spoken) → option_map takes_memory_early s ≡ Some true → AnswersLine set h told line s Memory
-memory_by set h told line None early = cc
-memory_by set h told line (Some s) early = inr (early_lacks set.head.origin s cc, refl)
+-- a request for which memory is taken while its line is read takes memory
+early_takes : (limits : Limits) (h : List Entry) (pending : Option Pending) (request : Request) → takes_memory_early request ≡ true → takes_memory limits h pending request ≡ true
+early_takes limits h pending (asks.Plan edit) e = e
+early_takes limits h pending (asks.Apply edit) e = or_first (has_places edit) (is_none (refusal (content_of h) (length h) limits edit)) e
+early_takes limits h pending asks.Sync e = cc
+early_takes limits h pending asks.Commit e = cc
+early_takes limits h pending (asks.Level p) e = cc
+early_takes limits h pending (asks.Contour z) e = cc
+early_takes limits h pending (asks.Volume z) e = cc
+early_takes limits h pending asks.Stat e = cc
+early_takes limits h pending asks.Export e = cc
+early_takes limits h pending asks.Quit e = cc
 
--- a line for whose places there is no memory
-pub memory_line : (set : Setting) (author : ℕ) (h : List Entry) (line : List ℕ) → option_map takes_memory_early (spoken line) ≡ Some true → ServesLine set author h h line Memory
-memory_line set author h line early = unserved set author h line Memory refl (λ told. memory_by set h told line (spoken line) early)
+memory_within : (set : Setting) (h : List Entry) (pending : Option Pending) (r : Option Request) → option_map takes_memory_early r ≡ Some true → IsAnswerWithin set h pending r Memory
+memory_within set h pending None early = cc
+memory_within set h pending (Some request) early = inr (early_takes set.limits h pending request cc, refl)
+
+memory_by : (set : Setting) (h : List Entry) (pending : Option Pending) (line : List ℕ) (s : Option Spoken) → option_map takes_memory_early (option_and_then (request_within set.head.origin) s) ≡ Some true → by_spoken set h pending line Memory s
+unfolding by_spoken
+memory_by set h pending line None early = cc
+memory_by set h pending line (Some s) early = memory_within set h pending (request_within set.head.origin s) early
+
+-- a line for whose places there was no room
+pub memory_line : (author : ℕ) (pending : Option Pending) (j : Journal) (line : List ℕ) → option_map takes_memory_early (request_of j.head.origin line) ≡ Some true → ServesLine author pending (j, j) line Memory
+unfolding by_spoken
+memory_line author pending j line early = unserved author pending j line Memory refl (memory_by (setting j) j.entries pending line (spoken line) early)
 
 -- an edit was made
-pub serves_done : (author : ℕ) (old new : StoreView) (edit : Edit) (front : ℕ) (line : Option LineId) → Applies author edit old new (applied.Done front line) → Serves author old new (asks.Apply edit) (Done front line)
-serves_done author old new edit front line a = record {
-  is = λ told. inl (sym (ap to_edit (answer-newest old.limits old.log edit ∙ ap (by_refusal old.log edit) a.0) ∙ ap (λ f. Done f (given_number (content_of old.log) edit)) (sym a.1) ∙ ap (Done front) (sym a.2)));
-  log = λ told. ap (λ store. store.log) a.3;
-  stays = ap setting a.3;
-}
+pub serves_done : (author : ℕ) (pending : Option Pending) (change : Journal × Journal) (edit : Edit) (front : ℕ) (line : Option LineId) → Applies author edit change.0 change.1 (applied.Done front line) → Serves author pending change (asks.Apply edit) (Done front line)
+serves_done author pending change edit front line a =
+    let old = change.0 in
+    record {
+      is = inl (sym (ap to_edit (answer-newest old.limits old.entries edit ∙ ap (by_refusal old.entries edit) a.0) ∙ ap (λ f. Done f (given_number (content_of old.entries) edit)) (sym a.1) ∙ ap (Done front) (sym a.2)));
+      entries = ap (λ (j : Journal). j.entries) a.3;
+      stays = ap setting a.3;
+    }
 
 -- an edit was refused
-pub serves_refused : (author : ℕ) (old new : StoreView) (edit : Edit) (front : ℕ) (cause : Refusal) → Applies author edit old new (applied.Refused front cause) → Serves author old new (asks.Apply edit) (Refused front cause)
-serves_refused author old new edit front cause a = record {
-  is = λ told. inl (sym (ap to_edit (answer-newest old.limits old.log edit ∙ ap (by_refusal old.log edit) a.0) ∙ ap (λ f. Refused f cause) (sym a.1)));
-  log = λ told. ap (λ store. store.log) a.2;
-  stays = ap setting a.2;
+pub serves_refused : (author : ℕ) (pending : Option Pending) (change : Journal × Journal) (edit : Edit) (front : ℕ) (cause : Refusal) → Applies author edit change.0 change.1 (applied.Refused front cause) → Serves author pending change (asks.Apply edit) (Refused front cause)
+serves_refused author pending change edit front cause a =
+    let old = change.0 in
+    record {
+      is = inl (sym (ap to_edit (answer-newest old.limits old.entries edit ∙ ap (by_refusal old.entries edit) a.0) ∙ ap (λ f. Refused f cause) (sym a.1)));
+      entries = ap (λ (j : Journal). j.entries) a.2;
+      stays = ap setting a.2;
+    }
+
+-- there was no room for an edit that takes some
+pub serves_memory : (author : ℕ) (pending : Option Pending) (change : Journal × Journal) (edit : Edit) → Applies author edit change.0 change.1 applied.Memory → Serves author pending change (asks.Apply edit) Memory
+serves_memory author pending change edit a = record {
+  is = inr (a.0, refl);
+  entries = ap (λ (j : Journal). j.entries) a.1;
+  stays = ap setting a.1;
 }

@@ -70,7 +70,7 @@ before_all S R M g has less x y m [] h = tt
 before_all S R M g has less x y m (z ∷ zs) h =
     each-append (λ w. R y w ≡ Less) (g z) (flat_map g zs) (each-implied (M z) (λ w. R y w ≡ Less) (λ w n. less x z y w h.0 m n) (g z) (has z)) (before_all S R M g has less x y m zs h.1)
 
--- lists in order, one behind the other: M says of what list an element is
+-- lists in order, one after another: M says of what list an element is
 pub sorted-flat_map : {X Y : Type 0} (S : X → X → Ordering) (R : Y → Y → Ordering) (M : X → Y → Type 0) (g : X → List Y) → ((x : X) → IsStrictlySortedBy R (g x)) → ((x : X) → AllByRecursion (M x) (g x)) → ((x z : X) (y w : Y) → S x z ≡ Less → M x y → M z w → R y w ≡ Less)
     → (xs : List X) → IsStrictlySortedBy S xs → IsStrictlySortedBy R (flat_map g xs)
 unfolding IsStrictlySortedBy

@@ -1,13 +1,14 @@
 -- Lines that ask to quit, and the farewell that answers them.
 use Rattle.std.proofs.Common.{◌≡◌, ℕ, suc, zero, inl, inr, Bool, true, false, cond, ◌||◌, List, [], ◌∷◌, ◌++◌, length, take, Option, None, Some, refl, sym, ap, ◌∙◌, arith, length-append}
-use Rattle.std.specs.Prelude.{option_map}
+use Rattle.std.specs.Prelude.{option_map, MatchOption}
 use Rattle.std.specs.List.{slice_get}
 use Rattle.ground_model.specs.declared.edit.Edit.{Edit}
 use Rattle.ground_model.specs.declared.entry.Entry.{Entry}
 use Rattle.ground_model.specs.declared.refusal.Refusal.{Refusal}
 use Rattle.ground_model.specs.History.{content_of}
 use Rattle.ground_model.specs.Refusal.{refusal}
-use Rattle.ground_model.specs.Answer.{answer, by_refusal}
+use Rattle.ground_model.specs.declared.limits.Limits.{Limits}
+use Rattle.ground_model.specs.Answer.{Pending, answer, by_refusal}
 use Rattle.ground_model.proofs.Newest.{answer-newest}
 use Rattle.line_protocol.specs.declared.reply.Reply.{Reply}
 use Rattle.line_protocol.specs.declared.request.Request.{Request}
@@ -15,13 +16,13 @@ use Rattle.line_protocol.specs.declared.request.Request.TheVariants as asks
 use Rattle.line_protocol.specs.Spoken.{Spoken, Sync, Plan, Commit, Apply, Level, Contour, Volume, Stat, Export, Quit}
 use Rattle.line_protocol.specs.Grammar.{spoken}
 use Rattle.line_protocol.specs.Within.{request_within, edit_within, place_within, level_within}
-use Rattle.session.specs.Setting.{Setting}
-use Rattle.session.specs.Told.{Told, told_nothing}
-use Rattle.session.specs.Table.{to_edit, IsReplyWithin}
-use Rattle.session.specs.Transcript.{may_lack_memory, AnswersLine, QuitIsLast}
+use Rattle.turn_lock.specs.Setting.{Setting, setting}
+use Rattle.turn_lock.specs.declared.journal.Journal.{Journal}
+use Rattle.session.specs.Table.{to_edit, IsReply}
+use Rattle.session.specs.Transcript.{takes_memory, IsFaultReply, IsAnswerWithin, QuitIsLast}
 use Rattle.session.specs.Talk.{asks_quit, is_quit, up_to_quit, has_quit}
 use Rattle.session.specs.Talking.{is_bye, ServesLine}
-use Rattle.session.proofs.Turns.{get_more}
+use Rattle.session.proofs.Exchanges.{get_more}
 
 or_none : (a b : Bool) → a || b ≡ false → (a ≡ false) × (b ≡ false)
 or_none true b e = cc
@@ -101,19 +102,41 @@ asks_bye : Option Request → Bool
 asks_bye (Some asks.Quit) = true
 asks_bye request = false
 
-bye_request : (set : Setting) (h : List Entry) (told : Told) (r : Option Request) (reply : Reply) → IsReplyWithin set h told r reply → is_bye reply ≡ asks_bye r
+bye_request : (set : Setting) (h : List Entry) (pending : Option Pending) (r : Request) (reply : Reply) → IsReply set h pending r reply → is_bye reply ≡ asks_bye (Some r)
 unfolding asks_bye
-bye_request set h told None reply is = rw is refl
-bye_request set h told (Some (asks.Apply e)) reply is = bye_applied set h e reply is
-bye_request set h told (Some asks.Stat) reply is = rw is refl
-bye_request set h told (Some asks.Quit) reply is = rw is refl
-bye_request set h told (Some asks.Sync) reply is = rw is refl
-bye_request set h told (Some (asks.Plan e)) reply is = rw is refl
-bye_request set h told (Some asks.Commit) reply is = rw is refl
-bye_request set h told (Some (asks.Level p)) reply is = rw is refl
-bye_request set h told (Some (asks.Contour z)) reply is = rw is refl
-bye_request set h told (Some (asks.Volume z)) reply is = rw is refl
-bye_request set h told (Some asks.Export) reply is = rw is refl
+bye_request set h pending (asks.Apply e) reply is = bye_applied set h e reply is
+bye_request set h pending asks.Stat reply is = rw is refl
+bye_request set h pending asks.Quit reply is = rw is refl
+bye_request set h pending asks.Sync reply is = rw is refl
+bye_request set h pending (asks.Plan e) reply is = rw is refl
+bye_request set h pending asks.Commit reply is = rw is refl
+bye_request set h pending (asks.Level p) reply is = rw is refl
+bye_request set h pending (asks.Contour z) reply is = rw is refl
+bye_request set h pending (asks.Volume z) reply is = rw is refl
+bye_request set h pending asks.Export reply is = rw is refl
+
+-- a request that takes memory doesn't ask to quit
+lacking_stays : (limits : Limits) (h : List Entry) (pending : Option Pending) (r : Request) → takes_memory limits h pending r ≡ true → false ≡ asks_bye (Some r)
+unfolding asks_bye
+lacking_stays limits h pending asks.Quit e = cc
+lacking_stays limits h pending (asks.Apply edit) e = refl
+lacking_stays limits h pending asks.Stat e = refl
+lacking_stays limits h pending asks.Sync e = refl
+lacking_stays limits h pending (asks.Plan edit) e = refl
+lacking_stays limits h pending asks.Commit e = refl
+lacking_stays limits h pending (asks.Level p) e = refl
+lacking_stays limits h pending (asks.Contour z) e = refl
+lacking_stays limits h pending (asks.Volume z) e = refl
+lacking_stays limits h pending asks.Export e = refl
+
+bye_within : (set : Setting) (h : List Entry) (pending : Option Pending) (r : Option Request) (reply : Reply) → IsAnswerWithin set h pending r reply → is_bye reply ≡ asks_bye r
+unfolding asks_bye
+bye_within set h pending None reply is = rw is refl
+bye_within set h pending (Some r) reply a =
+    elim a [
+      | inl is ↦ bye_request set h pending r reply is
+      | inr lacks ↦ ap is_bye lacks.1 ∙ lacking_stays set.limits h pending r lacks.0
+    ]
 
 no_bye : {X : Type 0} (f : X → Request) (found : Option X) → ((x : X) → asks_bye (Some (f x)) ≡ false) → asks_bye (option_map f found) ≡ false
 unfolding asks_bye
@@ -134,26 +157,9 @@ within_bye set Stat = refl
 within_bye set Export = refl
 within_bye set Quit = refl
 
-lacking_stays : (set : Setting) (s : Spoken) → may_lack_memory s (request_within set.head.origin s) ≡ true → false ≡ asks_quit (Some s)
-unfolding request_within
-lacking_stays set Sync h = refl
-lacking_stays set (Plan e) h = refl
-lacking_stays set Commit h = refl
-lacking_stays set (Apply e) h = refl
-lacking_stays set (Level p) h = refl
-lacking_stays set (Contour z) h = refl
-lacking_stays set (Volume z) h = refl
-lacking_stays set Stat h = refl
-lacking_stays set Export h = refl
-lacking_stays set Quit h = cc
+bye_line : (set : Setting) (h : List Entry) (pending : Option Pending) (line : List ℕ) (s : Option Spoken) (reply : Reply) → MatchOption s (IsFaultReply line reply) (λ s. IsAnswerWithin set h pending (request_within set.head.origin s) reply) → is_bye reply ≡ asks_quit s
+bye_line set h pending line None reply a = rw a.2 refl
+bye_line set h pending line (Some s) reply a = bye_within set h pending (request_within set.head.origin s) reply a ∙ within_bye set s
 
-bye_line : (set : Setting) (h : List Entry) (told : Told) (line : List ℕ) (s : Option Spoken) (reply : Reply) → AnswersLine set h told line s reply → is_bye reply ≡ asks_quit s
-bye_line set h told line None reply a = rw a.2 refl
-bye_line set h told line (Some s) reply a =
-    elim a [
-      | inl is ↦ bye_request set h told (request_within set.head.origin s) reply is ∙ within_bye set s
-      | inr lacks ↦ ap is_bye lacks.1 ∙ lacking_stays set s lacks.0
-    ]
-
-pub bye_is : (set : Setting) (author : ℕ) (old new : List Entry) (line : List ℕ) (reply : Reply) → ServesLine set author old new line reply → is_bye reply ≡ is_quit line
-bye_is set author old new line reply a = bye_line set old told_nothing line (spoken line) reply (a.is told_nothing)
+pub bye_is : (author : ℕ) (pending : Option Pending) (change : Journal × Journal) (line : List ℕ) (reply : Reply) → ServesLine author pending change line reply → is_bye reply ≡ is_quit line
+bye_is author pending change line reply a = bye_line (setting change.0) change.0.entries pending line (spoken line) reply a.is

@@ -17,17 +17,15 @@ use Rattle.ground_model.specs.declared.piece.Piece.{Piece}
 use Rattle.ground_model.specs.Place.{Coords, place_cmp, is_before, is_same}
 use Rattle.ground_model.specs.Side.{is_left}
 use Rattle.ground_model.specs.declared.edit.Edit.TheVariants.{SetLevel}
-use Rattle.ground_model.specs.Content.{Content, after, points_of, lines_of, level_of, count, pieces}
+use Rattle.ground_model.specs.Content.{Content, after, points_of, lines_of, level_of}
 use Rattle.ground_model.specs.Tri.{Triple, triples, is_empty, is_facet, is_facet_at, facet_with, facets, is_crossed_by_none, is_walled_off}
 use Rattle.ground_model.specs.Kept.{is_kept, kept}
 use Rattle.ground_model.specs.declared.slope.Slope.{Slope}
-use Rattle.ground_model.specs.Slope.{relief}
+use Rattle.ground_model.specs.Slope.{relief, slope_of}
 use Rattle.ground_model.proofs.Contents.{places_total}
 use Rattle.ground_model.proofs.Ties.{same_of_is_same}
 use Rattle.measures.specs.SlopeList.{slope_cmp, level_in, IsRelief}
-use Rattle.line_table.specs.Table.{pieces_on_all, count_on}
-use Rattle.rings.specs.Kept.{is_kept_among}
-use Rattle.session.specs.Surfaces.{slope_by}
+use Rattle.ground_model.specs.Table.{pieces_on}
 use Rattle.session.proofs.Orders.{each-always, each-implied, each-map, each-flat_map, each-filter, each-kept, sorted-map, sorted-implied, sorted-flat_map}
 
 -- ---- the order of triples
@@ -94,11 +92,11 @@ level_by false false false rest u v w r k fu fv fw fr h = fr h
 zero_or : (Coords → Option ℤ) → Coords → ℤ
 zero_or level_at p = unwrap_or (level_at p) (pos 0)
 
-level_in-is : (level_at : Coords → Option ℤ) (fs : List Facet) (p : Coords) → list_any (has_corner p) fs ≡ true → zero_or level_at p ≡ level_in (map (slope_by level_at) fs) p
+level_in-is : (level_at : Coords → Option ℤ) (fs : List Facet) (p : Coords) → list_any (has_corner p) fs ≡ true → zero_or level_at p ≡ level_in (map (slope_of level_at) fs) p
 unfolding level_in has_corner zero_or
 level_in-is level_at [] p h = cc
 level_in-is level_at (f ∷ fs) p h =
-    level_by (is_same f.a p) (is_same f.b p) (is_same f.c p) (list_any (has_corner p) fs) (zero_or level_at f.a) (zero_or level_at f.b) (zero_or level_at f.c) (level_in (map (slope_by level_at) fs) p) (zero_or level_at p)
+    level_by (is_same f.a p) (is_same f.b p) (is_same f.c p) (list_any (has_corner p) fs) (zero_or level_at f.a) (zero_or level_at f.b) (zero_or level_at f.c) (level_in (map (slope_of level_at) fs) p) (zero_or level_at p)
     (λ e. ap (zero_or level_at) (sym (same_of_is_same f.a p e)))
     (λ e. ap (zero_or level_at) (sym (same_of_is_same f.b p e)))
     (λ e. ap (zero_or level_at) (sym (same_of_is_same f.c p e)))
@@ -143,13 +141,13 @@ has_c : (f : Facet) → has_corner f.c f ≡ true
 unfolding has_corner
 has_c f = or_third (is_same f.a f.c) (is_same f.b f.c) (is_same f.c f.c) (is_same-refl f.c)
 
-one_level : (level_at : Coords → Option ℤ) (fs : List Facet) → All (λ s. (s.za ≡ level_in (map (slope_by level_at) fs) s.facet.a) × (s.zb ≡ level_in (map (slope_by level_at) fs) s.facet.b) × (s.zc ≡ level_in (map (slope_by level_at) fs) s.facet.c)) (map (slope_by level_at) fs)
+one_level : (level_at : Coords → Option ℤ) (fs : List Facet) → All (λ s. (s.za ≡ level_in (map (slope_of level_at) fs) s.facet.a) × (s.zb ≡ level_in (map (slope_of level_at) fs) s.facet.b) × (s.zc ≡ level_in (map (slope_of level_at) fs) s.facet.c)) (map (slope_of level_at) fs)
 unfolding zero_or
 one_level level_at fs =
-    All-map (λ s. (s.za ≡ level_in (map (slope_by level_at) fs) s.facet.a) × (s.zb ≡ level_in (map (slope_by level_at) fs) s.facet.b) × (s.zc ≡ level_in (map (slope_by level_at) fs) s.facet.c)) (slope_by level_at) fs
+    All-map (λ s. (s.za ≡ level_in (map (slope_of level_at) fs) s.facet.a) × (s.zb ≡ level_in (map (slope_of level_at) fs) s.facet.b) × (s.zc ≡ level_in (map (slope_of level_at) fs) s.facet.c)) (slope_of level_at) fs
     (λ k d lt. (at k d lt (get_or fs k d).a (has_a (get_or fs k d)), at k d lt (get_or fs k d).b (has_b (get_or fs k d)), at k d lt (get_or fs k d).c (has_c (get_or fs k d))))
   where
-    at : (k : ℕ) (d : Facet) → k < length fs → (p : Coords) → has_corner p (get_or fs k d) ≡ true → zero_or level_at p ≡ level_in (map (slope_by level_at) fs) p
+    at : (k : ℕ) (d : Facet) → k < length fs → (p : Coords) → has_corner p (get_or fs k d) ≡ true → zero_or level_at p ≡ level_in (map (slope_of level_at) fs) p
     at k d lt p h = level_in-is level_at fs p (any_at (has_corner p) fs k d lt h)
 
 -- by a, then b, then c
@@ -157,13 +155,13 @@ pub facet_cmp : Facet → Facet → Ordering
 facet_cmp = then_cmp (on (λ f. f.a) place_cmp) (then_cmp (on (λ f. f.b) place_cmp) (on (λ f. f.c) place_cmp))
 
 -- Counterclockwise facets in order, with any levels, are a relief.
-pub slopes-relief : (level_at : Coords → Option ℤ) (fs : List Facet) → IsStrictlySortedBy facet_cmp fs → All (λ f. IsTrue (is_left f.a f.b f.c)) fs → length fs < 2 ^ 32 → IsRelief (map (slope_by level_at) fs)
+pub slopes-relief : (level_at : Coords → Option ℤ) (fs : List Facet) → IsStrictlySortedBy facet_cmp fs → All (λ f. IsTrue (is_left f.a f.b f.c)) fs → length fs < 2 ^ 30 → IsRelief (map (slope_of level_at) fs)
 unfolding facet_cmp
 slopes-relief level_at fs sorted turned few = record {
-  in_order = sorted-map slope_cmp (slope_by level_at) fs sorted;
-  turned = All-map (λ s. IsTrue (is_left s.facet.a s.facet.b s.facet.c)) (slope_by level_at) fs turned;
+  in_order = sorted-map slope_cmp (slope_of level_at) fs sorted;
+  turned = All-map (λ s. IsTrue (is_left s.facet.a s.facet.b s.facet.c)) (slope_of level_at) fs turned;
   one_level = one_level level_at fs;
-  few = rw (length-map fs (slope_by level_at)) few;
+  few = rw (length-map fs (slope_of level_at)) few;
 }
 
 module _ (points : List Coords) (ps : List Piece) where
@@ -178,17 +176,17 @@ module _ (points : List Coords) (ps : List Piece) where
       (each-implied (λ t. is_facet_at points ps t ≡ true) (λ t. is_left t.0 t.1.0 t.1.1 ≡ true) (λ t h. left_of points ps t.0 t.1.0 t.1.1 h) (filter (is_facet_at points ps) (triples points)) (each-filter (is_facet_at points ps) (triples points)))
 
   -- The facets that a test keeps, of points in order, with any levels.
-  pub kept-relief : (level_at : Coords → Option ℤ) (keep : Facet → Bool) → IsStrictlySortedBy place_cmp points → length (map (slope_by level_at) (filter keep (facets points ps))) < 2 ^ 32 → IsRelief (map (slope_by level_at) (filter keep (facets points ps)))
+  pub kept-relief : (level_at : Coords → Option ℤ) (keep : Facet → Bool) → IsStrictlySortedBy place_cmp points → length (map (slope_of level_at) (filter keep (facets points ps))) < 2 ^ 30 → IsRelief (map (slope_of level_at) (filter keep (facets points ps)))
   kept-relief level_at keep sorted few =
       slopes-relief level_at (filter keep (facets points ps)) (IsStrictlySortedBy-filter facet_cmp keep (facets points ps) (facets-sorted sorted))
       (All-from_recursion (λ f. IsTrue (is_left f.a f.b f.c)) (filter keep (facets points ps)) (each-kept (λ f. IsTrue (is_left f.a f.b f.c)) keep (facets points ps) facets-left))
-      (rw (← length-map (filter keep (facets points ps)) (slope_by level_at)) few)
+      (rw (← length-map (filter keep (facets points ps)) (slope_of level_at)) few)
 
 -- The facets of a relief with other levels.
-pub releveled-relief : (level_at : Coords → Option ℤ) (slopes : List Slope) → IsRelief slopes → IsRelief (map (λ s. slope_by level_at s.facet) slopes)
+pub releveled-relief : (level_at : Coords → Option ℤ) (slopes : List Slope) → IsRelief slopes → IsRelief (map (λ s. slope_of level_at s.facet) slopes)
 unfolding facet_cmp
 releveled-relief level_at slopes r =
-    subst IsRelief (map-map (slope_by level_at) (λ s. s.facet) slopes)
+    subst IsRelief (map-map (slope_of level_at) (λ s. s.facet) slopes)
     (slopes-relief level_at (map (λ s. s.facet) slopes) (sorted-map facet_cmp (λ s. s.facet) slopes r.in_order) (All-map (λ f. IsTrue (is_left f.a f.b f.c)) (λ s. s.facet) slopes r.turned) (rw (length-map slopes (λ s. s.facet)) r.few))
 
 pub relief-none : IsRelief []
@@ -202,18 +200,18 @@ relief-none = record {
 
 -- ---- the relief of a content
 
--- it is told by its points, its pieces, its lines and its levels
-pub relief-by : (c : Content) → relief c ≡ map (slope_by (level_of c)) (filter (is_kept_among (lines_of c)) (facets (points_of c) (pieces_on_all (points_of c) (lines_of c))))
-unfolding relief kept is_kept pieces count pieces_on_all count_on
+-- it is determined by its points, its pieces, its lines and its levels
+pub relief-by : (c : Content) → relief c ≡ map (slope_of (level_of c)) (filter (is_kept (lines_of c)) (facets (points_of c) (pieces_on (points_of c) (lines_of c))))
+unfolding relief kept
 relief-by c = refl
 
 -- a level that is set leaves the facets
-pub relief-level : (c : Content) (p : Coords) (z : ℤ) → points_of (after c (SetLevel p z)) ≡ points_of c → relief (after c (SetLevel p z)) ≡ map (λ s. slope_by (level_of (after c (SetLevel p z))) s.facet) (relief c)
+pub relief-level : (c : Content) (p : Coords) (z : ℤ) → points_of (after c (SetLevel p z)) ≡ points_of c → relief (after c (SetLevel p z)) ≡ map (λ s. slope_of (level_of (after c (SetLevel p z))) s.facet) (relief c)
 unfolding after
 relief-level c p z same =
     let level = level_of (after c (SetLevel p z)) in
-    let fs = filter (is_kept_among (lines_of c)) (facets (points_of c) (pieces_on_all (points_of c) (lines_of c))) in
+    let fs = filter (is_kept (lines_of c)) (facets (points_of c) (pieces_on (points_of c) (lines_of c))) in
     relief-by (after c (SetLevel p z))
-    ∙ ap (λ points. map (slope_by (level_of (after c (SetLevel p z)))) (filter (is_kept_among (lines_of c)) (facets points (pieces_on_all points (lines_of c))))) same
-    ∙ sym (map-map (λ s. slope_by (level_of (after c (SetLevel p z))) s.facet) (slope_by (level_of c)) fs)
-    ∙ ap (map (λ s. slope_by (level_of (after c (SetLevel p z))) s.facet)) (sym (relief-by c))
+    ∙ ap (λ points. map (slope_of (level_of (after c (SetLevel p z)))) (filter (is_kept (lines_of c)) (facets points (pieces_on points (lines_of c))))) same
+    ∙ sym (map-map (λ s. slope_of (level_of (after c (SetLevel p z))) s.facet) (slope_of (level_of c)) fs)
+    ∙ ap (map (λ s. slope_of (level_of (after c (SetLevel p z))) s.facet)) (sym (relief-by c))

@@ -1,21 +1,26 @@
 -- How a session over a stream goes on by a byte, and how it stops.
-use Rattle.std.proofs.Common.{◌≡◌, ℕ, suc, ◌+◌, ◌<◌, ◌==◌, Bool, true, false, List, [], ◌∷◌, ◌++◌, length, take, drop, get_or, Option, Result, Ok, Err, refl, sym, ap, subst, ◌∙◌, append_assoc, arith, map, drop-cons, inl, inr}
+use Rattle.std.proofs.Common.{◌≡◌, ℕ, suc, ◌+◌, ◌<◌, ◌==◌, Bool, true, false, List, [], ◌∷◌, ◌++◌, length, take, drop, get_or, Result, Ok, Err, refl, sym, ap, subst, ◌∙◌, append_assoc, arith, map, drop-cons, inl, inr}
 use Rattle.std.proofs.lemmas.List.{append-nil, map-append, take-append-drop, take_more}
 use Rattle.std.proofs.lemmas.Bool.Decides.{eqb_tells}
 use Rattle.std.proofs.Math.Seq.{drop-length}
+use Rattle.ground_io.specs.Order.{Received, Sent, GoesOnWith, KeepsOrder}
+use Rattle.ground_io.proofs.Ordering.{adds_none, goes_on, order_kept}
 use Rattle.ground_model.specs.declared.entry.Entry.{Entry}
 use Rattle.ground_model.specs.History.{IsLegal}
 use Rattle.line_protocol.specs.declared.reply.Reply.{Reply}
-use Rattle.line_protocol.specs.Replies.{reply_text}
 use Rattle.line_protocol.proofs.Appended.{appends_none, appends_both}
+use Rattle.turn_lock.specs.Setting.{Setting, setting}
+use Rattle.turn_lock.specs.declared.journal.Journal.{Journal}
 use Rattle.session.specs.Lines.{text_of, ended, unfinished, whole_lines}
-use Rattle.session.specs.Setting.{Setting}
-use Rattle.session.specs.Transcript.{Transcript, QuitIsLast, fronts_by, texts}
+use Rattle.session.specs.Texts.{text_at, texts}
+use Rattle.session.specs.Transcript.{Transcript, QuitIsLast, fronts_by}
 use Rattle.session.specs.Talk.{up_to_quit}
-use Rattle.session.specs.Talking.{Going, Talking, Stops, Answered}
+use Rattle.session.specs.Talking.{Start, Output, sitting, Going, Talking, Stops, Answered}
+use Rattle.session.specs.declared.conversation.Ended.{Ended}
 use Rattle.session.specs.declared.conversation.Ended.TheVariants.{Quit, WriteFault}
 use Rattle.session.proofs.Streams.{ended_from-append, ended_same}
-use Rattle.session.proofs.Turns.{answered}
+use Rattle.session.proofs.Exchanges.{answered, exchanges_each}
+use Rattle.session.proofs.Answering.{received-sends, sent-sends, received-read, sent-read, text_at-any, texts-any, texts_more, in_time_none, in_time_sent, in_time_read}
 use Rattle.session.proofs.Quits.{up_to_quit_at, up_to_quit_front, has_quit_at, no_quit_more, quit_is_last}
 
 pub no_line_end : (b : ℕ) → (b ≡ 10 → ⊥) → (b == 10) ≡ false
@@ -24,69 +29,124 @@ no_line_end b other = elim (eqb_tells b 10) [ inl h ↦ absurd (other h.1) | inr
 lines_at : (seen rest : List ℕ) → whole_lines (seen ++ 10 ∷ rest) ≡ whole_lines seen ++ text_of (unfinished seen) ∷ whole_lines rest
 lines_at seen rest = ap (map text_of) (ended_from-append [] seen (10 ∷ rest)) ∙ map-append text_of (ended seen) (unfinished seen ∷ ended rest)
 
-texts_more : (set : Setting) (replies : List Reply) (reply : Reply) → texts set (replies ++ reply ∷ []) ≡ texts set replies ++ reply_text set.head.origin reply
-texts_more set [] reply = append-nil (reply_text set.head.origin reply)
-texts_more set (r ∷ replies) reply = rw (texts_more set replies reply) (sym (append_assoc (reply_text set.head.origin r) (texts set replies) (reply_text set.head.origin reply)))
-
 -- a session that went on so far, as its transcript
-pub transcript_of : (set : Setting) (author : ℕ) (first h : List Entry) (lines : List (List ℕ)) (replies : List Reply) → Going set author first h lines replies → QuitIsLast lines → Transcript set h author (length first) lines replies
-transcript_of set author first h lines replies going last = record {
+pub transcript_of : (b : Start) (h : List Entry) (lines : List (List ℕ)) (replies : List Reply) → Going b h lines replies → QuitIsLast lines → Transcript (sitting b) h lines replies
+transcript_of b h lines replies going last = record {
   legal = going.legal;
-  turns = going.turns;
+  exchanges = going.exchanges;
   quit_is_last = last;
   each_once = going.each_once;
 }
 
-module _ (set : Setting) (author : ℕ) (first h : List Entry) (seen : List ℕ) (at_first written : Option (List ℕ)) (t : Talking set author first h seen at_first written) where
-  -- a byte that ends no line
-  pub byte_goes : (b : ℕ) → (b ≡ 10 → ⊥) → Talking set author first h (seen ++ b ∷ []) at_first written
-  byte_goes b other =
-      let same : whole_lines (seen ++ b ∷ []) ≡ whole_lines seen = ap (map text_of) (ended_same seen b (no_line_end b other)) in
-      record {
-        replies = t.replies;
-        going = rw same t.going;
-        told = t.told;
-        no_quit = rw same t.no_quit;
-      }
+-- a byte that ends no line
+pub byte_goes : (b : Start) (h : List Entry) (output : Output) (got seen : List ℕ) (byte : ℕ) → (byte ≡ 10 → ⊥) → Talking b h output got seen → Talking b h output got (seen ++ byte ∷ [])
+byte_goes b h output got seen byte other t =
+    let same : whole_lines (seen ++ byte ∷ []) ≡ whole_lines seen = ap (map text_of) (ended_same seen byte (no_line_end byte other)) in
+    record {
+      replies = t.replies;
+      events = t.events;
+      going = rw same t.going;
+      written = t.written;
+      no_quit = rw same t.no_quit;
+      ordered = t.ordered;
+      received = t.received;
+      sent = t.sent;
+      in_time = t.in_time;
+    }
+
+-- a piece that was read, where all lines so far are answered
+pub piece_goes : (b : Start) (h : List Entry) (old new : Output) (seen piece : List ℕ) → new.written ≡ old.written → GoesOnWith old.order new.order (Received piece ∷ []) → Talking b h old seen seen → Talking b h new (seen ++ piece) seen
+piece_goes b h old new seen piece kept read t = record {
+  replies = t.replies;
+  events = t.events ++ Received piece ∷ [];
+  going = t.going;
+  written = rw kept t.written;
+  no_quit = t.no_quit;
+  ordered = goes_on b.output.order old.order new.order t.events (Received piece ∷ []) t.ordered read;
+  received = received-read t.events piece ∙ ap (λ bytes. bytes ++ piece) t.received;
+  sent = sent-read t.events piece ∙ t.sent;
+  in_time = in_time_read b.setting h t.events t.replies piece t.in_time (exchanges_each (sitting b) h _ (whole_lines seen) t.replies t.going.exchanges ∙ ap (λ bytes. length (whole_lines bytes)) (sym t.received)) t.sent;
+}
+
+module _ (b : Start) (change : Journal × Journal) (same : setting change.0 ≡ b.setting) (outputs : Output × Output) (got seen : List ℕ) (t : Talking b change.0.entries outputs.0 got seen) where
+  line : List ℕ
+  line = text_of (unfinished seen)
+
+  -- the text of the line's reply, and of all replies with it
+  text_now : (reply : Reply) → text_at (setting change.0) change.0.entries reply ≡ text_at b.setting change.1.entries reply
+  text_now reply = ap (λ set. text_at set change.0.entries reply) same ∙ text_at-any b.setting change.0.entries change.1.entries reply
+
+  texts_now : texts b.setting change.0.entries t.replies ≡ texts b.setting change.1.entries t.replies
+  texts_now = texts-any b.setting change.0.entries change.1.entries t.replies
+
+  all_now : (reply : Reply) → texts b.setting change.1.entries (t.replies ++ reply ∷ []) ≡ texts b.setting change.0.entries t.replies ++ text_at (setting change.0) change.0.entries reply
+  all_now reply = texts_more b.setting change.1.entries t.replies reply ∙ (λ i. sym texts_now i ++ sym (text_now reply) i)
 
   -- a line end, and the line's reply
-  pub line_goes : {E : Type 0} (new : List Entry) (written_now : Option (List ℕ)) → Answered {E = E} set author h new (text_of (unfinished seen)) written written_now (Ok false) → Talking set author first new (seen ++ 10 ∷ []) at_first written_now
-  line_goes {E} new written_now a =
-      let lines : whole_lines (seen ++ 10 ∷ []) ≡ whole_lines seen ++ text_of (unfinished seen) ∷ [] = lines_at seen [] in
+  pub line_goes : {E : Type 0} → Answered {E = E} b.author change (text_of (unfinished seen)) outputs (Ok false) → Talking b change.1.entries outputs.1 got (seen ++ 10 ∷ [])
+  unfolding line
+  line_goes {E} a =
+      let lines : whole_lines (seen ++ 10 ∷ []) ≡ whole_lines seen ++ line ∷ [] = lines_at seen [] in
+      let put = a.told.1 in
       record {
         replies = t.replies ++ a.reply ∷ [];
-        going = rw lines (answered set author first h (whole_lines seen) t.replies (text_of (unfinished seen)) t.going new a.reply a.serves);
-        told = rw (texts_more set t.replies a.reply) (appends_both at_first written written_now (texts set t.replies) (reply_text set.head.origin a.reply) t.told a.told.1);
-        no_quit = rw lines (no_quit_more (whole_lines seen) (text_of (unfinished seen)) t.no_quit (sym a.told.0));
+        events = t.events ++ map Sent put.sent.0;
+        going = rw lines (answered b change (whole_lines seen) t.replies line a.reply t.going same a.serves);
+        written = rw (all_now a.reply) (appends_both b.output.written outputs.0.written outputs.1.written (texts b.setting change.0.entries t.replies) (text_at (setting change.0) change.0.entries a.reply) t.written put.appended);
+        no_quit = rw lines (no_quit_more (whole_lines seen) line t.no_quit (sym a.told.0));
+        ordered = goes_on b.output.order outputs.0.order outputs.1.order t.events (map Sent put.sent.0) t.ordered put.sent.1;
+        received = received-sends t.events put.sent.0 ∙ t.received;
+        sent = sent-sends t.events put.sent.0 (text_at (setting change.0) change.0.entries a.reply) put.sent.2 ∙ ap (λ bytes. bytes ++ text_at (setting change.0) change.0.entries a.reply) t.sent ∙ sym (all_now a.reply);
+        in_time = in_time_sent b.setting change.0.entries change.1.entries t.events t.replies put.sent.0 a.reply t.in_time;
       }
 
   -- a line that asks to quit
-  pub line_quits : {E : Type 0} (new : List Entry) (rest : List ℕ) (written_now : Option (List ℕ)) → Answered {E = E} set author h new (text_of (unfinished seen)) written written_now (Ok true) → Stops set author first new (seen ++ 10 ∷ rest) at_first written_now Quit
-  line_quits {E} new rest written_now a =
-      let going = answered set author first h (whole_lines seen) t.replies (text_of (unfinished seen)) t.going new a.reply a.serves in
+  pub line_quits : {E : Type 0} (rest : List ℕ) → got ≡ seen ++ 10 ∷ rest → Answered {E = E} b.author change (text_of (unfinished seen)) outputs (Ok true) → Stops b change.1.entries outputs.1 (seen ++ 10 ∷ rest) Quit
+  unfolding line
+  line_quits {E} rest all a =
+      let going = answered b change (whole_lines seen) t.replies line a.reply t.going same a.serves in
+      let put = a.told.1 in
       record {
-        lines = whole_lines seen ++ text_of (unfinished seen) ∷ [];
+        lines = whole_lines seen ++ line ∷ [];
         replies = t.replies ++ a.reply ∷ [];
-        taken = sym (ap up_to_quit (lines_at seen rest) ∙ up_to_quit_at (whole_lines seen) (text_of (unfinished seen)) (whole_lines rest) t.no_quit (sym a.told.0));
-        transcript = transcript_of set author first new _ _ going (quit_is_last (whole_lines seen) (text_of (unfinished seen)) t.no_quit);
+        events = t.events ++ map Sent put.sent.0;
+        taken = sym (ap up_to_quit (lines_at seen rest) ∙ up_to_quit_at (whole_lines seen) line (whole_lines rest) t.no_quit (sym a.told.0));
+        transcript = transcript_of b change.1.entries _ _ going (quit_is_last (whole_lines seen) line t.no_quit);
         begins = going.begins;
         alone = going.alone;
-        told = rw (texts_more set t.replies a.reply) (appends_both at_first written written_now (texts set t.replies) (reply_text set.head.origin a.reply) t.told a.told.1);
-        ending = rw (lines_at seen rest) (has_quit_at (whole_lines seen) (text_of (unfinished seen)) (whole_lines rest) (sym a.told.0));
+        written = rw (all_now a.reply) (appends_both b.output.written outputs.0.written outputs.1.written (texts b.setting change.0.entries t.replies) (text_at (setting change.0) change.0.entries a.reply) t.written put.appended);
+        ordered = goes_on b.output.order outputs.0.order outputs.1.order t.events (map Sent put.sent.0) t.ordered put.sent.1;
+        received = received-sends t.events put.sent.0 ∙ t.received ∙ all;
+        in_time = in_time_sent b.setting change.0.entries change.1.entries t.events t.replies put.sent.0 a.reply t.in_time;
+        ending = rw (lines_at seen rest) (has_quit_at (whole_lines seen) line (whole_lines rest) (sym a.told.0));
       }
 
   -- a line whose reply could not be written
-  pub line_fails : {E : Type 0} (new : List Entry) (rest : List ℕ) (written_now : Option (List ℕ)) (e : E) → Answered {E = E} set author h new (text_of (unfinished seen)) written written_now (Err e) → Stops set author first new (seen ++ 10 ∷ rest) at_first written_now WriteFault
-  line_fails {E} new rest written_now e a =
-      let going = answered set author first h (whole_lines seen) t.replies (text_of (unfinished seen)) t.going new a.reply a.serves in
+  pub line_fails : {E : Type 0} (rest : List ℕ) (e : E) → got ≡ seen ++ 10 ∷ rest → Answered {E = E} b.author change (text_of (unfinished seen)) outputs (Err e) → Stops b change.1.entries outputs.1 (seen ++ 10 ∷ rest) WriteFault
+  unfolding line
+  line_fails {E} rest e all a =
+      let going = answered b change (whole_lines seen) t.replies line a.reply t.going same a.serves in
+      let some = a.told.appended in
+      let put = a.told.sent.2 in
       record {
-        lines = whole_lines seen ++ text_of (unfinished seen) ∷ [];
+        lines = whole_lines seen ++ line ∷ [];
         replies = t.replies ++ a.reply ∷ [];
-        taken = (suc (length (whole_lines seen)), rw (lines_at seen rest) (up_to_quit_front (whole_lines seen) (text_of (unfinished seen)) (whole_lines rest) t.no_quit));
-        transcript = transcript_of set author first new _ _ going (quit_is_last (whole_lines seen) (text_of (unfinished seen)) t.no_quit);
+        events = t.events ++ map Sent put.0;
+        taken = (suc (length (whole_lines seen)), rw (lines_at seen rest) (up_to_quit_front (whole_lines seen) line (whole_lines rest) t.no_quit));
+        transcript = transcript_of b change.1.entries _ _ going (quit_is_last (whole_lines seen) line t.no_quit);
         begins = going.begins;
         alone = going.alone;
-        told = (t.replies, a.reply, refl, a.told.0, a.told.1, appends_both at_first written written_now (texts set t.replies) (take a.told.0 (reply_text set.head.origin a.reply)) t.told a.told.2);
+        written = record {
+          earlier = t.replies;
+          last = a.reply;
+          are = refl;
+          count = some.0;
+          within = rw (← text_now a.reply) some.1;
+          appended = rw (← texts_now, ← text_now a.reply) (appends_both b.output.written outputs.0.written outputs.1.written (texts b.setting change.0.entries t.replies) (take some.0 (text_at (setting change.0) change.0.entries a.reply)) t.written some.2);
+        };
+        ordered = goes_on b.output.order outputs.0.order outputs.1.order t.events (map Sent put.0) t.ordered put.1;
+        received = received-sends t.events put.0 ∙ t.received ∙ all;
+        in_time = in_time_sent b.setting change.0.entries change.1.entries t.events t.replies put.0 a.reply t.in_time;
         ending = tt;
       }
 
@@ -100,32 +160,54 @@ pub take_here : (xs ys : List ℕ) (i b : ℕ) → i < length ys → get_or ys i
 take_here xs ys i b within is =
     ap (λ zs. xs ++ zs) (take_more ys i 0 within ∙ ap (λ n. take i ys ++ n ∷ []) is) ∙ sym (append_assoc xs (take i ys) (b ∷ []))
 
--- ---- the same, by equal names
+-- ---- along equations
 
-pub answered_at : {E : Type 0} (set' set : Setting) (author : ℕ) (old new : List Entry) (line' line : List ℕ) (written written_now : Option (List ℕ)) (r' r : Result Bool E)
-    → set' ≡ set → line' ≡ line → r' ≡ r → Answered {E = E} set' author old new line' written written_now r' → Answered {E = E} set author old new line written written_now r
-answered_at {E} set' set author old new line' line written written_now r' r es el er a =
-    subst (λ (q : Result Bool E). Answered {E = E} set author old new line written written_now q) er
-    (subst (λ (l : List ℕ). Answered {E = E} set author old new l written written_now r') el
-    (subst (λ (s : Setting). Answered {E = E} s author old new line' written written_now r') es a))
+pub answered_at : {E : Type 0} (author : ℕ) (change : Journal × Journal) (line' line : List ℕ) (outputs : Output × Output) (r' r : Result Bool E) → line' ≡ line → r' ≡ r → Answered {E = E} author change line' outputs r' → Answered {E = E} author change line outputs r
+answered_at {E} author change line' line outputs r' r el er a =
+    subst (λ (q : Result Bool E). Answered {E = E} author change line outputs q) er (subst (λ (l : List ℕ). Answered {E = E} author change l outputs r') el a)
 
-pub in_setting : (set' set : Setting) (author : ℕ) (first h : List Entry) (seen : List ℕ) (at_first written' written : Option (List ℕ)) → set' ≡ set → written' ≡ written
-    → Talking set' author first h seen at_first written' → Talking set author first h seen at_first written
-in_setting set' set author first h seen at_first written' written es ew t =
-    subst (λ (w : Option (List ℕ)). Talking set author first h seen at_first w) ew (subst (λ (s : Setting). Talking s author first h seen at_first written') es t)
+pub in_setting : (set' : Setting) (b : Start) (h : List Entry) (output : Output) (got seen : List ℕ) → set' ≡ b.setting → Talking (record b { setting = set' }) h output got seen → Talking b h output got seen
+in_setting set' b h output got seen e t = subst (λ (set : Setting). Talking (record b { setting = set }) h output got seen) e t
+
+pub stops_in : (set' : Setting) (b : Start) (h : List Entry) (output : Output) (read : List ℕ) (end : Ended) → set' ≡ b.setting → Stops (record b { setting = set' }) h output read end → Stops b h output read end
+stops_in set' b h output read end e s = subst (λ (set : Setting). Stops (record b { setting = set }) h output read end) e s
+
+-- a read that failed
+pub fault_goes : (b : Start) (h : List Entry) (old new : Output) (seen : List ℕ) → new.written ≡ old.written → KeepsOrder old.order new.order → Talking b h old seen seen → Talking b h new seen seen
+fault_goes b h old new seen kept order t = record {
+  replies = t.replies;
+  events = t.events;
+  going = t.going;
+  written = rw kept t.written;
+  no_quit = t.no_quit;
+  ordered = order_kept b.output.order old.order new.order t.events t.ordered order;
+  received = t.received;
+  sent = t.sent;
+  in_time = t.in_time;
+}
+
+-- a read that gave no byte
+pub end_goes : (b : Start) (h : List Entry) (old new : Output) (seen piece : List ℕ) → piece ≡ [] → new.written ≡ old.written → GoesOnWith old.order new.order (Received piece ∷ []) → Talking b h old seen seen → Talking b h new seen seen
+end_goes b h old new seen piece none kept read t = subst (λ (got : List ℕ). Talking b h new got seen) (ap (λ more. seen ++ more) none ∙ append-nil seen) (piece_goes b h old new seen piece kept read t)
 
 -- a session that was not asked anything yet
-pub talking_starts : (set : Setting) (author : ℕ) (first : List Entry) (written : Option (List ℕ)) → IsLegal set.limits first → Talking set author first first [] written written
-talking_starts set author first written legal = record {
+pub talking_starts : (b : Start) → IsLegal b.setting.limits b.first → Talking b b.first b.output [] []
+talking_starts b legal = record {
   replies = [];
+  events = [];
   going = record {
     legal = legal;
-    turns = tt;
-    each_once = ap (fronts_by author (length first)) (drop-length first);
+    exchanges = tt;
+    each_once = ap (fronts_by b.author (length b.first)) (drop-length b.first);
     shown = tt;
-    begins = ([], sym (append-nil first));
+    pending = refl;
+    begins = ([], sym (append-nil b.first));
     alone = omega arith;
   };
-  told = appends_none written;
+  written = appends_none b.output.written;
   no_quit = refl;
+  ordered = adds_none b.output.order;
+  received = refl;
+  sent = refl;
+  in_time = in_time_none b.setting b.first [];
 }

@@ -1,9 +1,10 @@
 pub mod Lines
-pub mod Setting
-pub mod Surfaces
-pub mod Stores
+pub mod Texts
 pub mod Told
 pub mod Table
 pub mod Transcript
+pub mod Order
 pub mod Talk
+pub mod Surfaces
+pub mod Stores
 pub mod Talking

@@ -1,12 +1,12 @@
--- The lines of a stream of bytes: parted at each LF, what stands behind the last one is the line that has not ended yet.
+-- The lines of a stream of bytes: parted at each LF; what stands after the last one is the line that has not ended yet.
 use Rattle.std.specs.Prelude.{◌==◌, ℕ, List, [], ◌∷◌, ◌++◌, map, take, length, ◌-◌, slice_index, if◌then◌else◌}
 
--- The lines that the bytes end, each without its LF, where `rest` came before them since the last line end.
+-- the lines that the bytes end, each without its LF, where `rest` came before them since the last line end
 abbrev pub ended_from : List ℕ → List ℕ → List (List ℕ)
 ended_from rest [] = []
 ended_from rest (b ∷ bs) = if b == 10 then rest ∷ ended_from [] bs else ended_from (rest ++ b ∷ []) bs
 
--- what came since the last line end
+-- what came since the last line end, where `rest` had come since it before these bytes
 abbrev pub rest_from : List ℕ → List ℕ → List ℕ
 rest_from rest [] = rest
 rest_from rest (b ∷ bs) = if b == 10 then rest_from [] bs else rest_from (rest ++ b ∷ []) bs

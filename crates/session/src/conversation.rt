@@ -1,25 +1,30 @@
 //! A session over a link.
 
-ghost use Rattle.std.specs.Prelude.{◌≡◌, ◌+◌, ◌≤◌, ◌<◌, ◌^◌, Some, IfOk, IfNone, length, take};
+ghost use Rattle.std.specs.Prelude.{◌≡◌, ◌≢◌, ◌+◌, ◌≤◌, ◌<◌, ◌^◌, None, Some, IfOk, IfNone, length, take};
 ghost use Rattle.ground_io.specs.Causes.{HasCause, Rose};
+ghost use Rattle.ground_io.specs.Order.{AddsRead};
+ghost use Rattle.ground_io.specs.Wires.{wire_view};
 ghost use Rattle.line_protocol.specs.declared.request.Request.TheVariants.{Apply};
 ghost use Rattle.line_protocol.specs.Replies.{HasVolumeWithin};
-ghost use Rattle.session.specs.Stores.{setting};
+ghost use Rattle.turn_lock.specs.Setting.{setting};
 ghost use Rattle.session.specs.Talk.{Talk};
 ghost use Rattle.session.specs.Talking.{Serves, ServesLine, is_bye, Answered, GoesOn, ReadsFront};
-ghost use Rattle.session.specs.declared.conversation.Ended.TheVariants.{ReadFault, WriteFault};
+ghost use Rattle.session.specs.declared.conversation.Ended.TheVariants.{Quit, ReadFault, WriteFault};
 
 use crate::line::{LINE_LIMIT, LineBuffer};
-use crate::store::{Applied, Store};
-use ground_io::{Failed, Link, Sink, Source};
+use crate::store::{AUTHOR, Applied, Store};
+use ground_io::{Failed, Link, Sink};
 use ground_model::Edit;
 use line_protocol::{LineFault, Reply, Request, put_reply, read_request};
 use std::alloc::Global;
 
+/// How many bytes one read takes at the most.
+const PIECE_SIZE: usize = 4096;
+
 /// How a session ended.
 #[derive(Clone, Copy, Debug, PartialEq, Eq)]
 pub enum Ended {
-    /// A line asked to quit and was answered; bytes behind it are not looked at.
+    /// A line asked to quit and was answered; bytes after it are not looked at.
     Quit,
     /// The input ended after a line end, or was empty.
     End,
@@ -33,12 +38,13 @@ pub enum Ended {
     ReadFault,
     /// A write failed. What was written is a beginning of the replies.
     WriteFault,
-    /// There is no memory for the line buffer. Nothing was read or written.
+    /// Out of memory for the line buffer. Nothing was read or written.
     Memory,
 }
 
+// The reply to an edit, which is made at once.
 fn reply_to_edit(store: &mut Store, edit: Edit) -> Reply
-    ensures serves { Serves 1 store.old store.new (Apply edit) result }
+    ensures serves { Serves AUTHOR None (store.old, store.new) (Apply edit) result }
     ensures volume { HasVolumeWithin result }
 {
     match store.apply(edit) {
@@ -48,8 +54,9 @@ fn reply_to_edit(store: &mut Store, edit: Edit) -> Reply
     }
 }
 
+// The reply to a request within its limits.
 fn reply_to_request(store: &mut Store, request: Request) -> Reply
-    ensures serves { Serves 1 store.old store.new request result }
+    ensures serves { Serves AUTHOR None (store.old, store.new) request result }
     ensures volume { HasVolumeWithin result }
 {
     match request {
@@ -57,24 +64,30 @@ fn reply_to_request(store: &mut Store, request: Request) -> Reply
         Request::Stat => Reply::Stat(store.front(), store.points(), store.lines()),
         Request::Level(place) => Reply::Level(store.front(), store.level(place)),
         Request::Quit => Reply::Bye,
-        _ => Reply::Unbuilt,
+        Request::Sync
+        | Request::Plan(_)
+        | Request::Commit
+        | Request::Contour(_)
+        | Request::Volume(_)
+        | Request::Export => Reply::Unbuilt,
     }
 }
 
+// The reply to a line, whatever it is.
 fn reply_to_line(alloc: Global, store: &mut Store, line: &[u8]) -> Reply
     requires { length line.now < 2 ^ 32 }
-    ensures serves { ServesLine (setting store.old) 1 store.old.log store.new.log line.now result }
-    ensures stays { setting store.new ≡ setting store.old }
+    ensures serves { ServesLine AUTHOR None (store.old, store.new) line.now result }
     ensures volume { HasVolumeWithin result }
 {
     match read_request(alloc, line, store.origin()) {
         Ok(request) => reply_to_request(store, request),
-        Err(LineFault::Syntax(place)) => Reply::Syntax(place),
+        Err(LineFault::Syntax(offset)) => Reply::Syntax(offset),
         Err(LineFault::Range) => Reply::Range,
         Err(LineFault::Memory) => Reply::Memory,
     }
 }
 
+// Whether the reply ends the session.
 fn is_farewell(reply: &Reply) -> bool
     ensures { result ≡ is_bye reply.now }
 {
@@ -89,8 +102,7 @@ fn answer_line<S: Sink>(
     line: &[u8],
 ) -> Result<bool, Failed>
     requires { length line.now < 2 ^ 32 }
-    ensures answered { Answered (setting store.old) 1 store.old.log store.new.log line.now (S.written sink.old) (S.written sink.new) result }
-    ensures stays { setting store.new ≡ setting store.old }
+    ensures answered { Answered AUTHOR (store.old, store.new) line.now (record { written = S.written sink.old; order = S.write_order sink.old }, record { written = S.written sink.new; order = S.write_order sink.new }) result }
     ensures cause { HasCause (S.write_faults sink.old) (S.write_faults sink.new) result }
     ensures rest { S.beside_writes sink.new ≡ S.beside_writes sink.old }
 {
@@ -99,24 +111,26 @@ fn answer_line<S: Sink>(
     Ok(is_farewell(&reply))
 }
 
-// Answers the lines that these bytes end, and keeps what comes behind them.
-fn answer_bytes<S: Sink>(
+// Answers the lines that these bytes end, and keeps what comes after them.
+fn answer_bytes<L: Link>(
     alloc: Global,
     store: &mut Store,
-    sink: &mut S,
+    link: &mut L,
     line: &mut LineBuffer,
     bytes: &[u8],
 ) -> Option<Ended>
     requires { length line.old + length bytes.now ≤ 131072 }
-    ensures goes { GoesOn 1 store.old store.new line.old line.new bytes.now (S.written sink.old) (S.written sink.new) result }
+    ensures goes { GoesOn AUTHOR (record { journal = store.old; rest = line.old; output = record { written = L.written link.old; order = L.write_order link.old } }) (record { journal = store.new; rest = line.new; output = record { written = L.written link.new; order = L.write_order link.new } }) bytes.now result }
     ensures stays { setting store.new ≡ setting store.old }
-    ensures cause { result ≡ Some WriteFault → Rose (S.write_faults sink.old) (S.write_faults sink.new) }
-    ensures kept { IfNone result (S.write_faults sink.new ≡ S.write_faults sink.old) }
-    ensures rest { S.beside_writes sink.new ≡ S.beside_writes sink.old }
+    ensures fault { result ≡ Some WriteFault → Rose (L.write_faults link.old) (L.write_faults link.new) }
+    ensures no_fault { result ≢ Some WriteFault → L.write_faults link.new ≡ L.write_faults link.old }
+    ensures left { L.left link.new ≡ L.left link.old }
+    ensures read_faults { L.read_faults link.new ≡ L.read_faults link.old }
+    ensures names { L.names link.new ≡ L.names link.old }
 {
     for b in bytes {
         if *b == b'\n' {
-            match answer_line(alloc, store, sink, line.text()) {
+            match answer_line(alloc, store, link, line.text()) {
                 Ok(false) => line.clear(),
                 Ok(true) => return Some(Ended::Quit),
                 Err(Failed) => return Some(Ended::WriteFault),
@@ -129,46 +143,56 @@ fn answer_bytes<S: Sink>(
 }
 
 // Reads at most so many bytes to the front of the piece.
-fn read_piece<S: Source>(
-    source: &mut S,
-    piece: &mut [u8; 4096],
+fn read_piece<L: Link>(
+    link: &mut L,
+    piece: &mut [u8; PIECE_SIZE],
     most: usize,
 ) -> Result<usize, Failed>
     requires some { 0 < most }
-    requires fits { most ≤ 4096 }
+    requires fits { most ≤ PIECE_SIZE }
     ensures bound { IfOk result (λ n. (n ≤ most) × (length (take n piece.new) ≡ n)) }
-    ensures bytes { ReadsFront (S.left source.old) (S.left source.new) piece.new result }
-    ensures cause { HasCause (S.read_faults source.old) (S.read_faults source.new) result }
-    ensures rest { S.beside_reads source.new ≡ S.beside_reads source.old }
+    ensures bytes { ReadsFront (L.left link.old) (L.left link.new) piece.new result }
+    ensures order { AddsRead (L.write_order link.old) (L.write_order link.new) result piece.new }
+    ensures cause { HasCause (L.read_faults link.old) (L.read_faults link.new) result }
+    ensures written { L.written link.new ≡ L.written link.old }
+    ensures write_faults { L.write_faults link.new ≡ L.write_faults link.old }
+    ensures names { L.names link.new ≡ L.names link.old }
 {
-    source.read(&mut piece[..most])
+    link.read(&mut piece[..most])
 }
 
-/// Answers the lines of a link, in order, as the one author of the store, with one write for each
-/// reply, before the next read. It never reads more than `budget` bytes. Its line buffer is taken
-/// before the first read.
+/// Answers the lines of a link, in order, as the one author of the store, before the next read. It
+/// hands each reply to the link in one write, and in more only where the link takes less. It never
+/// reads more than `budget` bytes. Its line buffer, of 131,072 bytes, is taken before the first
+/// read. An edit whose reply could not be written stays made. Where a link's bytes and the order of
+/// its calls aren't known, as with standard input, no clause says anything of them.
 pub fn talk<L: Link>(alloc: Global, store: &mut Store, link: &mut L, budget: u64) -> Ended
-    ensures session { Talk (setting store.old) 1 store.old.log store.new.log budget (L.left link.old) (L.left link.new) (L.written link.old) (L.written link.new) result }
+    ensures session { Talk (record { setting = setting store.old; author = AUTHOR; start = length store.old.entries }) budget (record { entries = store.old.entries; wire = wire_view L.left L.written L.write_order L.read_faults L.write_faults link.old }) (record { entries = store.new.entries; wire = wire_view L.left L.written L.write_order L.read_faults L.write_faults link.new }) result }
     ensures stays { setting store.new ≡ setting store.old }
     ensures names { L.names link.new ≡ L.names link.old }
     ensures read_fault { result ≡ ReadFault → Rose (L.read_faults link.old) (L.read_faults link.new) }
+    ensures reads_passed { result ≢ ReadFault → L.read_faults link.new ≡ L.read_faults link.old }
     ensures write_fault { result ≡ WriteFault → Rose (L.write_faults link.old) (L.write_faults link.new) }
+    ensures writes_passed { result ≢ WriteFault → L.write_faults link.new ≡ L.write_faults link.old }
 {
+    // Only the proof reads it: a store's journal is legal.
     let _start = store.front();
     let Ok(mut line) = LineBuffer::new(alloc) else {
         return Ended::Memory;
     };
-    let mut chunk = [0u8; 4096];
+    let mut piece = [0u8; PIECE_SIZE];
     let mut left = budget;
     'reading: while line.len() < LINE_LIMIT && left > 0 {
-        let room = left.min(4096).min((LINE_LIMIT - line.len()) as u64) as usize;
-        match read_piece(link, &mut chunk, room) {
+        let room = left
+            .min(PIECE_SIZE as u64)
+            .min((LINE_LIMIT - line.len()) as u64) as usize;
+        match read_piece(link, &mut piece, room) {
             Err(Failed) => return Ended::ReadFault,
             Ok(0) if line.len() == 0 => return Ended::End,
             Ok(0) => return Ended::Cut,
             Ok(count) => {
                 left -= count as u64;
-                if let Some(ended) = answer_bytes(alloc, store, link, &mut line, &chunk[..count]) {
+                if let Some(ended) = answer_bytes(alloc, store, link, &mut line, &piece[..count]) {
                     return ended;
                 }
             }

@@ -26,6 +26,7 @@ impl Model for LineBuffer {
 }
 
 impl LineBuffer {
+    /// An empty line.
     pub(crate) fn new(alloc: Global) -> Result<LineBuffer, AllocError>
         ensures { IfOk result (λ line. line ≡ []) }
     {
@@ -34,6 +35,7 @@ impl LineBuffer {
         })
     }
 
+    /// How many bytes came since the last line end.
     pub(crate) fn len(&self) -> usize
         ensures value { result ≡ length self.now }
         ensures fits { result < 131073 }
@@ -41,6 +43,7 @@ impl LineBuffer {
         self.bytes.len()
     }
 
+    /// Adds a byte that ends no line.
     pub(crate) fn push(&mut self, byte: u8)
         requires { length self.old < 131072 }
         ensures { self.new ≡ self.old ++ byte ∷ [] }
@@ -48,6 +51,7 @@ impl LineBuffer {
         self.bytes.push_reserved(byte);
     }
 
+    /// Begins the next line.
     pub(crate) fn clear(&mut self)
         ensures { self.new ≡ [] }
     {

@@ -9,12 +9,14 @@ ghost use Rattle.ground_model.specs.declared.limits.Limits.{Limits};
 ghost use Rattle.ground_model.specs.declared.refusal.Refusal.TheVariants.{TooShort, Repeated, NotPoint, VerticesFull, LinesFull, SelfCross, Crosses, LogFull};
 ghost use Rattle.ground_model.specs.declared.edit.Edit.TheVariants.{AddPoint, RemovePoint, SetLevel, AddLine, RemoveLine};
 ghost use Rattle.ground_model.specs.Content.{points_of};
-ghost use Rattle.ground_model.specs.Refusal.{edit_refusal, line_refusal, first_of, when, because, id, least_places, repeated as repeated_of, places_together, self_cross as self_cross_of, line_where, lines_cross};
-ghost use Rattle.line_table.specs.Planar.{IsPlanar};
-ghost use Rattle.line_table.specs.Crossings.{is_on_points};
+ghost use Rattle.ground_model.specs.Refusal.{edit_refusal, line_refusal, first_of, when, because, id, repeated as repeated_of};
+ghost use Rattle.ground_model.specs.Kind.{least_places};
+ghost use Rattle.ground_model.specs.Table.{places_together, least_where};
+ghost use Rattle.ground_model.specs.Crossings.{self_cross as self_cross_of, lines_cross, is_on_points};
+ghost use Rattle.ground_model.specs.Planar.{IsPlanar};
 
 use crate::surface::Surface;
-use ground_model::{Level, Limits, LineId, LineKind, Place, Refusal};
+use ground_model::{Level, Limits, LineId, Place, Refusal};
 use line_table::{Line, self_cross};
 use std::alloc::{AllocError, Global};
 
@@ -39,8 +41,8 @@ fn first_link_without_length(line: &Line) -> Option<usize>
     line.links().position(|(from, to)| from == to)
 }
 
-// The number of the place, counted from 1, at which the first link without length ends; a ring's
-// last link is told by the last place.
+// The number of the place, counted from 1, at which the first link without length ends. For a
+// ring's last link, which ends at the first place, it is that of the last place.
 fn repeated(line: &Line) -> Option<u32>
     requires { length line.now.places < 2 ^ 32 }
     ensures { result ≡ repeated_of line.now }
@@ -51,20 +53,12 @@ fn repeated(line: &Line) -> Option<u32>
     }
 }
 
-fn least_places_of(kind: LineKind) -> usize
-    ensures { result ≡ least_places kind }
-{
-    match kind {
-        LineKind::Breakline => 2,
-        LineKind::Outer | LineKind::Void | LineKind::Island => 3,
-    }
-}
-
+// Why a line of no use is refused: too few places, or a link without length.
 fn shape_refusal(line: &Line) -> Option<Refusal>
     requires { length line.now.places < 2 ^ 32 }
     ensures { result ≡ first_of (when (nat_lt (length line.now.places) (least_places line.now.kind)) TooShort ∷ because Repeated (repeated_of line.now) ∷ []) }
 {
-    if line.places().len() < least_places_of(line.kind()) {
+    if line.places().len() < line.kind().least_places() {
         Some(Refusal::TooShort)
     } else {
         repeated(line).map(Refusal::Repeated)
@@ -123,6 +117,7 @@ impl Surface {
             .position(|place| self.level_of(*place).is_none())
     }
 
+    // Why a line is refused for its places: one of them is no point.
     fn place_refusal(&self, line: &Line) -> Option<Refusal>
         requires { length line.now.places < 2 ^ 32 }
         ensures value { result ≡ because NotPoint (position_from (λ p. not (map.contains_key self.now.points p)) 1 line.now.places) }
@@ -134,9 +129,10 @@ impl Surface {
         }
     }
 
+    // Why a line is refused for the limits: too many places, or too many lines.
     fn room_refusal(&self, limits: &Limits, line: &Line) -> Option<Refusal>
-        ensures value { result ≡ first_of (when (nat_lt limits.now.places (length line.now.places) || nat_lt limits.now.vertices (places_together self.now + length line.now.places)) VerticesFull ∷ when (nat_le limits.now.lines (map.len self.now.lines)) LinesFull ∷ []) }
-        ensures room { IfNone result (map.len self.now.lines < 65535) }
+        ensures value { result ≡ first_of (when (nat_lt limits.now.places (length line.now.places) || nat_lt limits.now.vertices (places_together self.now.table + length line.now.places)) VerticesFull ∷ when (nat_le limits.now.lines (map.len self.now.table.lines)) LinesFull ∷ []) }
+        ensures room { IfNone result (map.len self.now.table.lines < 65535) }
     {
         let places = line.places().len() as u64;
         if places > limits.places as u64
@@ -150,11 +146,13 @@ impl Surface {
         }
     }
 
+    // Why a line is refused for what it crosses: itself, or a live line. It takes memory for the
+    // places of all points.
     fn crossing_refusal(&self, alloc: Global, line: &Line) -> Result<Option<Refusal>, AllocError>
         requires short { length line.now.places < 2 ^ 32 }
         requires own { IsTrue (is_on_points (points_of self.now) line.now) }
         requires planar { IsPlanar self.now }
-        ensures { IfOk result (λ cause. cause ≡ first_of (because (λ pair. SelfCross pair.0 pair.1) (self_cross_of (points_of self.now) line.now) ∷ because (λ k. Crosses (id k)) (line_where (λ other. lines_cross (points_of self.now) line.now other) self.now) ∷ [])) }
+        ensures { IfOk result (λ cause. cause ≡ first_of (because (λ pair. SelfCross pair.0 pair.1) (self_cross_of (points_of self.now) line.now) ∷ because (λ k. Crosses (id k)) (least_where (lines_cross (points_of self.now) line.now) self.now.table) ∷ [])) }
     {
         let places = self.places(alloc)?;
         if let Some((link, other)) = self_cross(line, places.as_slice()) {
@@ -179,7 +177,7 @@ impl Surface {
         requires short { length line.now.places < 2 ^ 32 }
         requires planar { IsPlanar self.now }
         ensures value { IfOk result (λ cause. cause ≡ line_refusal self.now limits.now line.now) }
-        ensures room { IfOk result (λ cause. IfNone cause (map.len self.now.lines < 65535)) }
+        ensures room { IfOk result (λ cause. IfNone cause (map.len self.now.table.lines < 65535)) }
     {
         if let Some(cause) = shape_refusal(line) {
             return Ok(Some(cause));

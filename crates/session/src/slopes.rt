@@ -4,11 +4,11 @@ ghost use Rattle.std.specs.Prelude.{◌≡◌, ◌<◌, ◌^◌, pos, [], length
 ghost use Rattle.std.specs.BTreeMap.{get, keys};
 ghost use Rattle.std.specs.List.Sorted.{IsStrictlySortedBy};
 ghost use Rattle.ground_model.specs.Place.{place_cmp};
-ghost use Rattle.ground_model.specs.Slope.{relief};
+ghost use Rattle.ground_model.specs.Slope.{relief, slope_of};
 ghost use Rattle.measures.specs.SlopeList.{IsRelief};
-ghost use Rattle.line_table.specs.Table.{live};
-ghost use Rattle.rings.specs.Kept.{is_kept_among};
-ghost use Rattle.session.specs.Surfaces.{content_by, slope_by};
+ghost use Rattle.ground_model.specs.Table.{live};
+ghost use Rattle.ground_model.specs.Kept.{is_kept};
+ghost use Rattle.session.specs.Surfaces.{content_by};
 
 use ground_model::{Facet, Level, Listed, Place, Slope};
 use line_table::Lines;
@@ -18,7 +18,10 @@ use slow_tri::facets;
 use std::alloc::{AllocError, Global};
 use std::collections::BTreeMap;
 
-/// The relief of no points. Takes no memory.
+// A relief has fewer slopes than this.
+const MOST_SLOPES: usize = 1 << 30;
+
+/// The relief of no points. It takes no memory.
 pub(crate) fn no_slopes(alloc: Global) -> SlopeList
     ensures { result ≡ [] }
 {
@@ -26,6 +29,7 @@ pub(crate) fn no_slopes(alloc: Global) -> SlopeList
     SlopeList::new(Listed::from_vec(slopes))
 }
 
+// The level, or 0 where there is none.
 fn level_or_zero(level: Option<Level>) -> Level
     ensures { result ≡ unwrap_or level (pos 0) }
 {
@@ -38,14 +42,16 @@ fn level_or_zero(level: Option<Level>) -> Level
     }
 }
 
+// The level of the point at this place, or 0 where there is none.
 fn level_at(points: &BTreeMap<Place, Level>, at: Place) -> Level
     ensures { result ≡ unwrap_or (get place_cmp points.now at) (pos 0) }
 {
     level_or_zero(points.get(&at).copied())
 }
 
+// The facet with the levels of its corners.
 fn slope_of(points: &BTreeMap<Place, Level>, facet: Facet) -> Slope
-    ensures { result ≡ slope_by (get place_cmp points.now) facet }
+    ensures { result ≡ slope_of (get place_cmp points.now) facet }
 {
     Slope {
         facet,
@@ -66,13 +72,14 @@ pub(crate) fn places_of(
     points.keys().copied().collect(alloc)
 }
 
+// Those of the facets that are part of the surface, with the levels of their corners.
 fn kept_slopes(
     alloc: Global,
     points: &BTreeMap<Place, Level>,
     lines: &Lines,
     facets: &[Facet],
 ) -> Result<Vec<Slope>, AllocError>
-    ensures { IfOk result (λ slopes. slopes.items ≡ map (slope_by (get place_cmp points.now)) (filter (is_kept_among (live lines.now)) facets.now)) }
+    ensures { IfOk result (λ slopes. slopes.items ≡ map (slope_of (get place_cmp points.now)) (filter (is_kept (live lines.now)) facets.now)) }
 {
     facets
         .iter()
@@ -81,12 +88,13 @@ fn kept_slopes(
         .collect(alloc)
 }
 
-/// A relief of 2^32 slopes or more is refused as want of memory.
+// A relief of 2^30 slopes or more, which no surface within its limits has, is refused as out of
+// memory.
 fn as_relief(slopes: Vec<Slope>) -> Result<SlopeList, AllocError>
-    requires { length slopes.items < 2 ^ 32 → IsRelief slopes.items }
+    requires { length slopes.items < 2 ^ 30 → IsRelief slopes.items }
     ensures { IfOk result (λ list. list ≡ slopes.items) }
 {
-    if slopes.len() > u32::MAX as usize {
+    if slopes.len() >= MOST_SLOPES {
         return Err(AllocError);
     }
     Ok(SlopeList::new(Listed::from_vec(slopes)))
@@ -106,23 +114,25 @@ pub(crate) fn relief_of(
     as_relief(kept_slopes(alloc, points, lines, found.as_slice())?)
 }
 
-/// The same facets with the levels of these points, for points that stand at the same places.
+/// The facets of these slopes with the levels of these points. Its cost is that of finding three
+/// points for each facet.
 pub(crate) fn releveled(
     alloc: Global,
     points: &BTreeMap<Place, Level>,
     slopes: &SlopeList,
 ) -> Result<SlopeList, AllocError>
-    ensures { IfOk result (λ list. list ≡ map (λ s. slope_by (get place_cmp points.now) s.facet) slopes.now) }
+    ensures { IfOk result (λ list. list ≡ map (λ s. slope_of (get place_cmp points.now) s.facet) slopes.now) }
 {
     as_relief(slopes_on(alloc, points, slopes.as_slice())?)
 }
 
+// The facets of these slopes with the levels of these points.
 fn slopes_on(
     alloc: Global,
     points: &BTreeMap<Place, Level>,
     slopes: &[Slope],
 ) -> Result<Vec<Slope>, AllocError>
-    ensures { IfOk result (λ list. list.items ≡ map (λ s. slope_by (get place_cmp points.now) s.facet) slopes.now) }
+    ensures { IfOk result (λ list. list.items ≡ map (λ s. slope_of (get place_cmp points.now) s.facet) slopes.now) }
 {
     slopes
         .iter()

@@ -1,6 +1,6 @@
 //! A store: a head, limits, and the journal with the surface that it makes.
 
-ghost use Rattle.std.specs.Prelude.{◌≡◌, ◌<◌, ◌^◌, [], length, None, IfOk, IfNone};
+ghost use Rattle.std.specs.Prelude.{◌≡◌, ◌<◌, ◌^◌, [], length, None, IfOk, IfNone, IsOk};
 ghost use Rattle.ground_model.specs.declared.edit.Edit.{Edit};
 ghost use Rattle.std.specs.FinMap as map;
 ghost use Rattle.ground_num.specs.Head.{IsOrigin};
@@ -31,11 +31,12 @@ pub struct Store {
 }
 
 impl Model for Store {
-    ghost use Rattle.session.specs.Stores.{StoreView, IsSound};
+    ghost use Rattle.turn_lock.specs.declared.journal.Journal.{Journal};
+    ghost use Rattle.session.specs.Stores.{IsSound};
 
-    ghost Value = { StoreView };
+    ghost Value = { Journal };
 
-    ghost view = { λ s. record { head = s.head; limits = s.limits; log = s.entries.items } };
+    ghost view = { λ s. record { head = s.head; limits = s.limits; entries = s.entries.items } };
 
     ghost invariant = { λ s. IsSound s.head s.limits s.entries.items s.surface };
 }
@@ -43,8 +44,11 @@ impl Model for Store {
 /// What became of an edit.
 #[derive(Clone, Copy, Debug, PartialEq, Eq)]
 pub(crate) enum Applied {
+    /// The edit was made: its front, and a new line's number.
     Done(u32, Option<LineId>),
+    /// The edit is unlawful: the newest front, and the first cause.
     Refused(u32, Refusal),
+    /// Out of memory. Nothing was changed.
     Memory,
 }
 
@@ -52,7 +56,7 @@ pub(crate) enum Applied {
 pub(crate) const AUTHOR: u16 = 1;
 
 // The line on a copy of its places, which the journal keeps too. 2^32 places or more, as no request
-// can spell, are refused as want of memory.
+// can spell, are refused as out of memory.
 fn copy_of(alloc: Global, kind: LineKind, places: &Places) -> Result<Line, AllocError>
     ensures line { IfOk result (λ line. line ≡ record { kind = kind; places = places.now }) }
     ensures short { IfOk result (λ line. length line.places < 2 ^ 32) }
@@ -64,10 +68,11 @@ fn copy_of(alloc: Global, kind: LineKind, places: &Places) -> Result<Line, Alloc
 }
 
 impl Store {
-    /// An empty surface with this head and these limits.
+    /// An empty surface with this head and these limits. It takes no memory, so it never fails.
     pub fn empty(alloc: Global, head: Head, limits: Limits) -> Result<Store, AllocError>
         requires { IsOrigin head.origin }
-        ensures { IfOk result (λ store. store ≡ record { head = head; limits = limits; log = [] }) }
+        ensures value { IfOk result (λ store. store ≡ record { head = head; limits = limits; entries = [] }) }
+        ensures answers { IsOk result }
     {
         Ok(Store {
             head,
@@ -77,6 +82,7 @@ impl Store {
         })
     }
 
+    /// The origin of the coordinates.
     pub(crate) fn origin(&self) -> &Origin
         ensures value { result.now ≡ self.now.head.origin }
         ensures small { IsOrigin result.now }
@@ -86,38 +92,40 @@ impl Store {
 
     /// How many entries the journal has.
     pub(crate) fn front(&self) -> u32
-        ensures value { result ≡ length self.now.log }
-        ensures legal { IsLegal self.now.limits self.now.log }
+        ensures value { result ≡ length self.now.entries }
+        ensures legal { IsLegal self.now.limits self.now.entries }
     {
         self.entries.len() as u32
     }
 
+    /// How many points the surface has.
     pub(crate) fn points(&self) -> u32
-        ensures { result ≡ map.len (content_of self.now.log).points }
+        ensures { result ≡ map.len (content_of self.now.entries).points }
     {
+        // Only the proof reads it: there are no more points than entries.
         let _front = self.entries.len();
         self.surface.points() as u32
     }
 
     /// How many lines are live.
     pub(crate) fn lines(&self) -> u32
-        ensures { result ≡ map.len (content_of self.now.log).lines }
+        ensures { result ≡ map.len (content_of self.now.entries).table.lines }
     {
         self.surface.lines().len()
     }
 
     /// The level of the surface at the place, None outside it. It takes no memory.
     pub(crate) fn level(&self, place: Place) -> Option<Level>
-        ensures { result ≡ level_at (relief (content_of self.now.log)) place }
+        ensures { result ≡ level_at (relief (content_of self.now.entries)) place }
     {
         self.surface.level(place)
     }
 
     // The edit's own cause, or that the journal is full.
     fn cause(&self, own: Option<Refusal>) -> Option<Refusal>
-        ensures value { (edit : Edit) → own ≡ edit_refusal (content_of self.now.log) self.now.limits edit → result ≡ newest_refusal self.now edit }
+        ensures value { (edit : Edit) → own ≡ edit_refusal (content_of self.now.entries) self.now.limits edit → result ≡ newest_refusal self.now edit }
         ensures own { IfNone result (own ≡ None) }
-        ensures room { IfNone result (length self.now.log < 2 ^ 24) }
+        ensures room { IfNone result (length self.now.entries < 2 ^ 24) }
     {
         first_cause(own, &self.limits, self.entries.len())
     }
@@ -125,10 +133,10 @@ impl Store {
     // Enters a lawful edit, whose surface this is, with the number that it gives to a line.
     fn enter(&mut self, edit: Edit, surface: Surface, line: Option<LineId>) -> Applied
         requires lawful { newest_refusal self.old edit ≡ None }
-        requires room { length self.old.log < 2 ^ 24 }
-        requires made { surface ≡ after (content_of self.old.log) edit }
-        requires number { line ≡ given_number (content_of self.old.log) edit }
-        ensures { Applies 1 edit self.old self.new result }
+        requires room { length self.old.entries < 2 ^ 24 }
+        requires made { surface ≡ after (content_of self.old.entries) edit }
+        requires number { line ≡ given_number (content_of self.old.entries) edit }
+        ensures { Applies AUTHOR edit self.old self.new result }
     {
         if self.entries.reserve(1).is_err() {
             return Applied::Memory;
@@ -143,8 +151,9 @@ impl Store {
         Applied::Done(number, line)
     }
 
+    // Adds a point.
     fn add_point(&mut self, place: Place, level: Level) -> Applied
-        ensures { Applies 1 (AddPoint place level) self.old self.new result }
+        ensures { Applies AUTHOR (AddPoint place level) self.old self.new result }
     {
         if let Some(cause) = self.cause(self.surface.addition_refusal(&self.limits, place)) {
             return Applied::Refused(self.front(), cause);
@@ -158,8 +167,9 @@ impl Store {
         }
     }
 
+    // Removes a point.
     fn remove_point(&mut self, place: Place) -> Applied
-        ensures { Applies 1 (RemovePoint place) self.old self.new result }
+        ensures { Applies AUTHOR (RemovePoint place) self.old self.new result }
     {
         if let Some(cause) = self.cause(self.surface.removal_refusal(place)) {
             return Applied::Refused(self.front(), cause);
@@ -170,8 +180,9 @@ impl Store {
         }
     }
 
+    // Sets another level of a point.
     fn set_level(&mut self, place: Place, level: Level) -> Applied
-        ensures { Applies 1 (SetLevel place level) self.old self.new result }
+        ensures { Applies AUTHOR (SetLevel place level) self.old self.new result }
     {
         if let Some(cause) = self.cause(self.surface.level_refusal(place)) {
             return Applied::Refused(self.front(), cause);
@@ -185,8 +196,9 @@ impl Store {
         }
     }
 
+    // Adds a line, on points. It takes memory before it is known whether the line is lawful.
     fn add_line(&mut self, kind: LineKind, places: Places) -> Applied
-        ensures { Applies 1 (AddLine kind places) self.old self.new result }
+        ensures { Applies AUTHOR (AddLine kind places) self.old self.new result }
     {
         let alloc = *self.entries.allocator();
         let Ok(line) = copy_of(alloc, kind, &places) else {
@@ -205,8 +217,9 @@ impl Store {
         }
     }
 
+    // Removes a line.
     fn remove_line(&mut self, id: LineId) -> Applied
-        ensures { Applies 1 (RemoveLine id) self.old self.new result }
+        ensures { Applies AUTHOR (RemoveLine id) self.old self.new result }
     {
         if let Some(cause) = self.cause(self.surface.number_refusal(id)) {
             return Applied::Refused(self.front(), cause);
@@ -217,9 +230,9 @@ impl Store {
         }
     }
 
-    /// Makes the edit as the author's next entry, if that is lawful. Want of memory changes nothing.
+    /// Makes the edit as the author's next entry, if that is lawful.
     pub(crate) fn apply(&mut self, edit: Edit) -> Applied
-        ensures { Applies 1 edit self.old self.new result }
+        ensures { Applies AUTHOR edit self.old self.new result }
     {
         match edit {
             Edit::AddPoint(place, level) => self.add_point(place, level),

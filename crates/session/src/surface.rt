@@ -8,8 +8,8 @@ ghost use Rattle.ground_model.specs.Place.{place_cmp};
 ghost use Rattle.ground_model.specs.Content.{empty, after, level_of, points_of};
 ghost use Rattle.ground_model.specs.Level.{level_at};
 ghost use Rattle.ground_model.specs.Slope.{relief};
-ghost use Rattle.line_table.specs.Table.{Table, with_line, without_line};
-ghost use Rattle.session.specs.Surfaces.{content_by, table_of};
+ghost use Rattle.ground_model.specs.Table.{Table, with_line, without_line};
+ghost use Rattle.session.specs.Surfaces.{content_by};
 
 use crate::slopes::{no_slopes, places_of, releveled, relief_of};
 use ground_model::{Level, LineId, Place};
@@ -29,7 +29,8 @@ pub(crate) struct Surface {
 
 impl Model for Surface {
     ghost use Rattle.ground_model.specs.Content.{Content};
-    ghost use Rattle.session.specs.Surfaces.{content_by, coded_content, IsSurface};
+    ghost use Rattle.session.specs.Surfaces.{content_by, IsSurface};
+    ghost use Rattle.ground_model.specs.Codes.{coded_content};
 
     ghost Value = { Content };
 
@@ -61,7 +62,7 @@ impl Surface {
 
     /// The live lines.
     pub(crate) fn lines(&self) -> &Lines
-        ensures { result.now ≡ table_of self.now }
+        ensures { result.now ≡ self.now.table }
     {
         &self.lines
     }
@@ -106,7 +107,7 @@ impl Surface {
 
     // A copy of the points, with this level at the place.
     fn points_with(&self, place: Place, level: Level) -> Result<BTreeMap<Place, Level>, AllocError>
-        ensures content { IfOk result (λ points. content_by points.entries (table_of self.now) ≡ after self.now (AddPoint place level)) }
+        ensures content { IfOk result (λ points. content_by points.entries self.now.table ≡ after self.now (AddPoint place level)) }
         ensures sorted { IfOk result (λ points. T (map.is_sorted place_cmp points.entries)) }
         ensures places { IsSome (level_of self.now place) → IfOk result (λ points. keys points ≡ points_of self.now) }
     {
@@ -117,7 +118,7 @@ impl Surface {
 
     // A copy of the points without that at the place.
     fn points_without(&self, place: Place) -> Result<BTreeMap<Place, Level>, AllocError>
-        ensures content { IfOk result (λ points. content_by points.entries (table_of self.now) ≡ after self.now (RemovePoint place)) }
+        ensures content { IfOk result (λ points. content_by points.entries self.now.table ≡ after self.now (RemovePoint place)) }
         ensures sorted { IfOk result (λ points. T (map.is_sorted place_cmp points.entries)) }
     {
         let mut points = self.points.clone()?;
@@ -166,7 +167,7 @@ impl Surface {
 
     // A copy of the points.
     fn same_points(&self) -> Result<BTreeMap<Place, Level>, AllocError>
-        ensures content { IfOk result (λ points. (t : Table) → content_by points.entries t ≡ record self.now { lines = t.lines; next_line = t.next }) }
+        ensures content { IfOk result (λ points. (t : Table) → content_by points.entries t ≡ record self.now { table = t }) }
         ensures sorted { IfOk result (λ points. T (map.is_sorted place_cmp points.entries)) }
     {
         self.points.clone()
@@ -174,10 +175,10 @@ impl Surface {
 
     // The lines with one more, under the next number.
     fn lines_with(&self, line: Line) -> Result<Lines, AllocError>
-        requires few { map.len self.now.lines < 65535 }
-        requires numbers { self.now.next_line < 2 ^ 32 - 1 }
+        requires few { map.len self.now.table.lines < 65535 }
+        requires numbers { self.now.table.next < 2 ^ 32 - 1 }
         requires short { length line.places < 2 ^ 32 }
-        ensures { IfOk result (λ lines. lines ≡ with_line (table_of self.now) line) }
+        ensures { IfOk result (λ lines. lines ≡ with_line self.now.table line) }
     {
         let mut lines = self.lines.share()?;
         let (kind, places) = line.into_parts();
@@ -189,7 +190,7 @@ impl Surface {
 
     // The lines without one.
     fn lines_without(&self, id: LineId) -> Result<Lines, AllocError>
-        ensures { IfOk result (λ lines. lines ≡ without_line (table_of self.now) id.0) }
+        ensures { IfOk result (λ lines. lines ≡ without_line self.now.table id.0) }
     {
         let mut lines = self.lines.share()?;
         let _line = lines.take(id)?;
@@ -198,8 +199,8 @@ impl Surface {
 
     /// This surface with a line more, under the next number.
     pub(crate) fn with_line(&self, alloc: Global, line: Line) -> Result<Surface, AllocError>
-        requires few { map.len self.now.lines < 65535 }
-        requires numbers { self.now.next_line < 2 ^ 32 - 1 }
+        requires few { map.len self.now.table.lines < 65535 }
+        requires numbers { self.now.table.next < 2 ^ 32 - 1 }
         requires short { length line.places < 2 ^ 32 }
         ensures { IfOk result (λ surface. surface ≡ after self.now (AddLine line.kind line.places)) }
     {

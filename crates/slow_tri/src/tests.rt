@@ -8,8 +8,11 @@ use std::test::Fail;
 
 type At = (i32, i32);
 
+/// The ends of a piece and its count.
+type Joined = (At, At, u16);
+
 /// The corners of a facet and the counts of its edges.
-type Corners = (At, At, At, [u16; 3]);
+type Corners = ([At; 3], [u16; 3]);
 
 fn place(rt: &impl Abort, at: At) -> Place {
     Place::new(at.0, at.1).expect(rt, "a place")
@@ -23,27 +26,29 @@ fn places(rt: &impl Abort, alloc: Global, ats: &[At]) -> Result<Vec<Place>, Fail
     Ok(all)
 }
 
+fn pieces(rt: &impl Abort, alloc: Global, joined: &[Joined]) -> Result<Vec<Piece>, Fail> {
+    let mut all = Vec::new(alloc);
+    for (p, q, count) in joined {
+        let (p, q, count) = (place(rt, *p), place(rt, *q), *count);
+        all.push(Piece { p, q, count })?;
+    }
+    Ok(all)
+}
+
 fn facet(rt: &impl Abort, corners: &Corners) -> Facet {
-    let (a, b, c, [ab, bc, ca]) = *corners;
+    let ([a, b, c], [ab, bc, ca]) = *corners;
+    let (a, b, c) = (place(rt, a), place(rt, b), place(rt, c));
     Facet {
-        a: place(rt, a),
-        b: place(rt, b),
-        c: place(rt, c),
+        a,
+        b,
+        c,
         ab,
         bc,
         ca,
     }
 }
 
-fn piece(rt: &impl Abort, p: At, q: At, count: u16) -> Piece {
-    Piece {
-        p: place(rt, p),
-        q: place(rt, q),
-        count,
-    }
-}
-
-/// Compares the whole list, its order too.
+// Compares the whole list, its order too.
 fn compare(rt: &impl Abort, found: &[Facet], want: &[Corners]) {
     assert_eq!(rt; found.len(), want.len());
     for (found, want) in found.iter().zip(want) {
@@ -51,102 +56,81 @@ fn compare(rt: &impl Abort, found: &[Facet], want: &[Corners]) {
     }
 }
 
+fn check(
+    rt: &impl Abort,
+    alloc: Global,
+    ats: &[At],
+    joined: &[Joined],
+    want: &[Corners],
+) -> Result<(), Fail> {
+    let points = places(rt, alloc, ats)?;
+    let pieces = pieces(rt, alloc, joined)?;
+    let found = facets(alloc, points.as_slice(), pieces.as_slice())?;
+    compare(rt, found.as_slice(), want);
+    Ok(())
+}
+
 const SQUARE: [At; 4] = [(0, 0), (0, 10), (10, 0), (10, 10)];
+
+// The square with the facets in order, whatever the order of its points.
+fn check_order(rt: &impl Abort, alloc: Global, order: usize) -> Result<(), Fail> {
+    let [a, b, c, d] = SQUARE;
+    let mut ats = vec![in alloc; a]?;
+    let (at_b, at_c, at_d) = (order % 2, order % 3, order / 6);
+    assert!(rt; at_b <= ats.len());
+    ats.insert(at_b, b)?;
+    assert!(rt; at_c <= ats.len());
+    ats.insert(at_c, c)?;
+    assert!(rt; at_d <= ats.len());
+    ats.insert(at_d, d)?;
+    let points = places(rt, alloc, ats.as_slice())?;
+    let mut found = facets(alloc, points.as_slice(), &[])?.into_vec();
+    found.sort_unstable();
+    let want = [
+        ([(0, 0), (10, 0), (10, 10)], [0, 0, 0]),
+        ([(0, 0), (10, 10), (0, 10)], [0, 0, 0]),
+    ];
+    compare(rt, found.as_slice(), &want);
+    Ok(())
+}
 
 #[test]
 fn square_keeps_the_diagonal_of_the_least_place(rt: HostRuntime) -> Result<(), Fail> {
-    let want = [
-        ((0, 0), (10, 0), (10, 10), [0, 0, 0]),
-        ((0, 0), (10, 10), (0, 10), [0, 0, 0]),
-    ];
-    let [a, b, c, d] = SQUARE;
-    let mut orders = 0u32;
-    for at_b in 0..2usize {
-        for at_c in 0..3usize {
-            for at_d in 0..4usize {
-                let mut order = vec![in rt.alloc(); a]?;
-                assert!(rt; at_b <= order.len());
-                order.insert(at_b, b)?;
-                assert!(rt; at_c <= order.len());
-                order.insert(at_c, c)?;
-                assert!(rt; at_d <= order.len());
-                order.insert(at_d, d)?;
-                let points = places(&rt, rt.alloc(), order.as_slice())?;
-                let mut found = facets(rt.alloc(), points.as_slice(), &[])?.into_vec();
-                found.sort_unstable();
-                compare(&rt, found.as_slice(), &want);
-                orders = orders.wrapping_add(1);
-            }
-        }
+    for order in 0..24 {
+        check_order(&rt, rt.alloc(), order)?;
     }
-    assert_eq!(rt; orders, 24);
     Ok(())
 }
 
 #[test]
 fn a_piece_turns_the_diagonal_of_the_square(rt: HostRuntime) -> Result<(), Fail> {
-    let points = places(&rt, rt.alloc(), &SQUARE)?;
-    let across = [piece(&rt, (0, 10), (10, 0), 2)];
+    let across = [((0, 10), (10, 0), 2)];
     let turned = [
-        ((0, 0), (10, 0), (0, 10), [0, 2, 0]),
-        ((0, 10), (10, 0), (10, 10), [2, 0, 0]),
+        ([(0, 0), (10, 0), (0, 10)], [0, 2, 0]),
+        ([(0, 10), (10, 0), (10, 10)], [2, 0, 0]),
     ];
-    compare(
-        &rt,
-        facets(rt.alloc(), points.as_slice(), &across)?.as_slice(),
-        &turned,
-    );
-    let along = [
-        piece(&rt, (0, 0), (0, 10), 1),
-        piece(&rt, (0, 0), (10, 10), 3),
-    ];
+    check(&rt, rt.alloc(), &SQUARE, &across, &turned)?;
+    let along = [((0, 0), (0, 10), 1), ((10, 10), (0, 0), 3)];
     let kept = [
-        ((0, 0), (10, 0), (10, 10), [0, 0, 3]),
-        ((0, 0), (10, 10), (0, 10), [3, 0, 1]),
+        ([(0, 0), (10, 0), (10, 10)], [0, 0, 3]),
+        ([(0, 0), (10, 10), (0, 10)], [3, 0, 1]),
     ];
-    compare(
-        &rt,
-        facets(rt.alloc(), points.as_slice(), &along)?.as_slice(),
-        &kept,
-    );
-    Ok(())
+    check(&rt, rt.alloc(), &SQUARE, &along, &kept)
 }
 
 #[test]
 fn hexagon_with_its_centre_has_six_facets(rt: HostRuntime) -> Result<(), Fail> {
     let ats = [(-5, 0), (-3, -4), (-3, 4), (0, 0), (3, -4), (3, 4), (5, 0)];
-    let points = places(&rt, rt.alloc(), &ats)?;
+    let middle = [((-5, 0), (0, 0), 1), ((0, 0), (5, 0), 1)];
     let want = [
-        ((-5, 0), (-3, -4), (0, 0), [0, 0, 0]),
-        ((-5, 0), (0, 0), (-3, 4), [0, 0, 0]),
-        ((-3, -4), (3, -4), (0, 0), [0, 0, 0]),
-        ((-3, 4), (0, 0), (3, 4), [0, 0, 0]),
-        ((0, 0), (3, -4), (5, 0), [0, 0, 0]),
-        ((0, 0), (5, 0), (3, 4), [0, 0, 0]),
+        ([(-5, 0), (-3, -4), (0, 0)], [0, 0, 1]),
+        ([(-5, 0), (0, 0), (-3, 4)], [1, 0, 0]),
+        ([(-3, -4), (3, -4), (0, 0)], [0, 0, 0]),
+        ([(-3, 4), (0, 0), (3, 4)], [0, 0, 0]),
+        ([(0, 0), (3, -4), (5, 0)], [0, 0, 1]),
+        ([(0, 0), (5, 0), (3, 4)], [1, 0, 0]),
     ];
-    compare(
-        &rt,
-        facets(rt.alloc(), points.as_slice(), &[])?.as_slice(),
-        &want,
-    );
-    let middle = [
-        piece(&rt, (-5, 0), (0, 0), 1),
-        piece(&rt, (0, 0), (5, 0), 1),
-    ];
-    let counted = [
-        ((-5, 0), (-3, -4), (0, 0), [0, 0, 1]),
-        ((-5, 0), (0, 0), (-3, 4), [1, 0, 0]),
-        ((-3, -4), (3, -4), (0, 0), [0, 0, 0]),
-        ((-3, 4), (0, 0), (3, 4), [0, 0, 0]),
-        ((0, 0), (3, -4), (5, 0), [0, 0, 1]),
-        ((0, 0), (5, 0), (3, 4), [1, 0, 0]),
-    ];
-    compare(
-        &rt,
-        facets(rt.alloc(), points.as_slice(), &middle)?.as_slice(),
-        &counted,
-    );
-    Ok(())
+    check(&rt, rt.alloc(), &ats, &middle, &want)
 }
 
 #[test]
@@ -162,60 +146,60 @@ fn each_square_of_a_grid_keeps_its_least_diagonal(rt: HostRuntime) -> Result<(),
         (2, 1),
         (2, 2),
     ];
-    let points = places(&rt, rt.alloc(), &ats)?;
     let want = [
-        ((0, 0), (1, 0), (1, 1), [0, 0, 0]),
-        ((0, 0), (1, 1), (0, 1), [0, 0, 0]),
-        ((0, 1), (1, 1), (1, 2), [0, 0, 0]),
-        ((0, 1), (1, 2), (0, 2), [0, 0, 0]),
-        ((1, 0), (2, 0), (2, 1), [0, 0, 0]),
-        ((1, 0), (2, 1), (1, 1), [0, 0, 0]),
-        ((1, 1), (2, 1), (2, 2), [0, 0, 0]),
-        ((1, 1), (2, 2), (1, 2), [0, 0, 0]),
+        ([(0, 0), (1, 0), (1, 1)], [0, 0, 0]),
+        ([(0, 0), (1, 1), (0, 1)], [0, 0, 0]),
+        ([(0, 1), (1, 1), (1, 2)], [0, 0, 0]),
+        ([(0, 1), (1, 2), (0, 2)], [0, 0, 0]),
+        ([(1, 0), (2, 0), (2, 1)], [0, 0, 0]),
+        ([(1, 0), (2, 1), (1, 1)], [0, 0, 0]),
+        ([(1, 1), (2, 1), (2, 2)], [0, 0, 0]),
+        ([(1, 1), (2, 2), (1, 2)], [0, 0, 0]),
     ];
-    compare(
-        &rt,
-        facets(rt.alloc(), points.as_slice(), &[])?.as_slice(),
-        &want,
-    );
-    let across = [piece(&rt, (0, 2), (1, 1), 1), piece(&rt, (1, 1), (2, 0), 1)];
+    check(&rt, rt.alloc(), &ats, &[], &want)?;
+    let across = [((0, 2), (1, 1), 1), ((1, 1), (2, 0), 1)];
     let turned = [
-        ((0, 0), (1, 0), (1, 1), [0, 0, 0]),
-        ((0, 0), (1, 1), (0, 1), [0, 0, 0]),
-        ((0, 1), (1, 1), (0, 2), [0, 1, 0]),
-        ((0, 2), (1, 1), (1, 2), [1, 0, 0]),
-        ((1, 0), (2, 0), (1, 1), [0, 1, 0]),
-        ((1, 1), (2, 0), (2, 1), [1, 0, 0]),
-        ((1, 1), (2, 1), (2, 2), [0, 0, 0]),
-        ((1, 1), (2, 2), (1, 2), [0, 0, 0]),
+        ([(0, 0), (1, 0), (1, 1)], [0, 0, 0]),
+        ([(0, 0), (1, 1), (0, 1)], [0, 0, 0]),
+        ([(0, 1), (1, 1), (0, 2)], [0, 1, 0]),
+        ([(0, 2), (1, 1), (1, 2)], [1, 0, 0]),
+        ([(1, 0), (2, 0), (1, 1)], [0, 1, 0]),
+        ([(1, 1), (2, 0), (2, 1)], [1, 0, 0]),
+        ([(1, 1), (2, 1), (2, 2)], [0, 0, 0]),
+        ([(1, 1), (2, 2), (1, 2)], [0, 0, 0]),
     ];
-    compare(
-        &rt,
-        facets(rt.alloc(), points.as_slice(), &across)?.as_slice(),
-        &turned,
-    );
-    Ok(())
+    check(&rt, rt.alloc(), &ats, &across, &turned)
 }
 
 #[test]
 fn points_without_an_area_have_no_facet(rt: HostRuntime) -> Result<(), Fail> {
-    let alone: [At; 2] = [(0, 0), (1, 0)];
-    let in_line: [At; 4] = [(0, 0), (1, 1), (2, 2), (3, 3)];
-    compare(&rt, facets(rt.alloc(), &[], &[])?.as_slice(), &[]);
-    compare(
-        &rt,
-        facets(rt.alloc(), places(&rt, rt.alloc(), &alone)?.as_slice(), &[])?.as_slice(),
-        &[],
-    );
-    compare(
-        &rt,
-        facets(
-            rt.alloc(),
-            places(&rt, rt.alloc(), &in_line)?.as_slice(),
-            &[],
-        )?
-        .as_slice(),
-        &[],
-    );
+    check(&rt, rt.alloc(), &[], &[], &[])?;
+    check(&rt, rt.alloc(), &[(0, 0), (1, 0)], &[], &[])?;
+    let collinear = [(0, 0), (1, 1), (2, 2), (3, 3)];
+    check(&rt, rt.alloc(), &collinear, &[], &[])
+}
+
+/// One more than the places on a ray: a prime, so that steps of any length come to each of them.
+const RAY: i32 = 173;
+
+// The origin and three rays from it. The order is scattered, so that a triangle with a point
+// inside is soon seen to have one.
+fn three_rays(rt: &impl Abort, alloc: Global) -> Result<Vec<Place>, Fail> {
+    let mut all = vec![in alloc; place(rt, (0, 0))]?;
+    for j in 1..RAY {
+        let k = j.wrapping_mul(107) % RAY;
+        all.push(place(rt, (k, 0)))?;
+        all.push(place(rt, (0, k)))?;
+        all.push(place(rt, (-k, -k)))?;
+    }
+    Ok(all)
+}
+
+// There are twice as many facets as the 517 points, less two and the three corners of the hull.
+#[test]
+fn more_than_a_thousand_facets_are_found(rt: HostRuntime) -> Result<(), Fail> {
+    let points = three_rays(&rt, rt.alloc())?;
+    let found = facets(rt.alloc(), points.as_slice(), &[])?;
+    assert_eq!(rt; found.len(), 1029);
     Ok(())
 }

@@ -22,6 +22,7 @@ pub fn facets(alloc: Global, points: &[Place], pieces: &[Piece]) -> Result<Facet
     Ok(Listed::from_vec(facets_by_loops(alloc, points, pieces)?))
 }
 
+// The facets by three loops over the points.
 #[tactic(auto, unfolding(ground_model::specs::Loops::facets_by_loops))]
 fn facets_by_loops(
     alloc: Global,
@@ -37,6 +38,7 @@ fn facets_by_loops(
     Ok(found)
 }
 
+// Adds the facets whose least corner is a.
 fn add_facets_from(
     found: &mut Vec<Facet>,
     points: &[Place],
@@ -51,6 +53,7 @@ fn add_facets_from(
     Ok(())
 }
 
+// Adds the facets that begin with the edge ab.
 fn add_facets_on(
     found: &mut Vec<Facet>,
     points: &[Place],
@@ -66,6 +69,7 @@ fn add_facets_on(
     Ok(())
 }
 
+// Adds a facet that was found.
 fn add_found(found: &mut Vec<Facet>, facet: Option<Facet>) -> Result<(), AllocError>
     ensures ok { OnOk result (found.new.items ≡ found.old.items ++ cons_option facet []) }
 {
@@ -75,7 +79,7 @@ fn add_found(found: &mut Vec<Facet>, facet: Option<Facet>) -> Result<(), AllocEr
     Ok(())
 }
 
-/// The facet with these corners, if there is one.
+// The facet with these corners, if there is one.
 fn facet_at(points: &[Place], pieces: &[Piece], a: Place, b: Place, c: Place) -> Option<Facet>
     ensures { result ≡ facet_at_of points.now pieces.now a b c }
 {
@@ -93,7 +97,7 @@ fn facet_at(points: &[Place], pieces: &[Piece], a: Place, b: Place, c: Place) ->
     }
 }
 
-/// How many lines have the edge.
+// How many lines have the edge.
 fn count_between(pieces: &[Piece], p: Place, q: Place) -> u16
     ensures { result ≡ count_at pieces.now p q }
 {
@@ -103,12 +107,14 @@ fn count_between(pieces: &[Piece], p: Place, q: Place) -> u16
     }
 }
 
+// The first piece that joins p and q.
 fn piece_between(pieces: &[Piece], p: Place, q: Place) -> Option<Piece>
     ensures { result ≡ find (joins p q) pieces.now }
 {
     pieces.iter().copied().find(|piece| is_between(piece, p, q))
 }
 
+// Whether the piece joins p and q, in either direction.
 fn is_between(piece: &Piece, p: Place, q: Place) -> bool
     ensures { result ≡ joins p q piece.now }
 {

@@ -1,6 +1,8 @@
--- A session that never began, for want of memory.
+-- A session that never began, out of memory.
 use Rattle.std.proofs.Common.{arith, ◌^◌, ◌<◌, ℕ, List, [], length, Option, refl}
 use Rattle.std.proofs.lemmas.List.Elements.{All-nil}
+use Rattle.ground_io.specs.Wires.{WireView}
+use Rattle.turn_lock.specs.Setting.{Setting}
 use Rattle.ground_model.specs.declared.limits.Limits.{Limits}
 use Rattle.session.specs.Talk.{line_limit}
 use Rattle.session.specs.declared.conversation.Ended.TheVariants as ended
@@ -24,15 +26,15 @@ full = record {
   log_in = omega arith;
 }
 
-pub without_memory : (left written : Option (List ℕ)) → RunsTalk left left written written statuses.Memory
+pub without_memory : (wire : WireView) → RunsTalk wire wire statuses.Memory
 unfolding full
-without_memory left written = record {
-  set = record { head = ground_head; limits = full };
-  ground = record { head = refl; limits = record { points = refl; lines = refl; places = refl; vertices = refl; log = refl } };
-  end = ended.Memory;
-  log = [];
-  is = refl;
-  session =
-      ends_memory (record { head = ground_head; limits = full }) 1 (2 ^ 40) [] [] [] left left written written (consumes_none left) (omega arith) (All-nil (λ (line : List ℕ). length line < line_limit))
-      (talking_starts (record { head = ground_head; limits = full }) 1 [] written (λ k x e. cc)) refl;
-}
+without_memory wire =
+    let set : Setting = record { head = ground_head; limits = full } in
+    record {
+      set = set;
+      ground = record { head = refl; limits = record { points = refl; lines = refl; places = refl; vertices = refl; log = refl } };
+      end = ended.Memory;
+      entries = [];
+      is = refl;
+      session = ends_memory set 1 (2 ^ 40) _ _ [] (consumes_none wire.left) (omega arith) (All-nil (λ (line : List ℕ). length line < line_limit)) (talking_starts _ (λ k x e. cc)) refl;
+    }

@@ -1,1 +1,2 @@
 pub mod FullLimits
+pub mod Codes

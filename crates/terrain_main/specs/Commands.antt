@@ -1,17 +1,18 @@
 -- Which words are a command, and how the program ends.
-use Rattle.std.specs.Prelude.{◌≡◌, ℕ, ◌^◌, pos, Bool, false, List, [], ◌∷◌, ◌++◌, codes, string_bytes, bytes_eq, Option, Result}
+use Rattle.std.specs.Prelude.{◌≡◌, ℕ, ◌^◌, pos, Bool, false, List, [], ◌∷◌, ◌++◌, codes, string_bytes, bytes_eq, Option, None, Some, Result}
 use Rattle.std.specs.declared.string.String.{String}
 use Rattle.std.specs.declared.alloc.Global.{Global}
 use Rattle.ground_num.specs.declared.head.Head.{Head}
 use Rattle.ground_num.specs.declared.head.LinearUnit.TheVariants.{Meter}
 use Rattle.ground_io.specs.Causes.{HasCause}
 use Rattle.ground_io.specs.Streams.{WritesText}
+use Rattle.ground_io.specs.Wires.{WireView}
 use Rattle.ground_io.specs.declared.fault.Failed.{Failed}
 use Rattle.ground_model.specs.declared.entry.Entry.{Entry}
 use Rattle.ground_model.specs.declared.limits.Limits.{Limits}
-use Rattle.session.specs.Setting.{Setting}
-use Rattle.session.specs.Stores.{StoreView, setting}
-use Rattle.session.specs.Talk.{Talk}
+use Rattle.turn_lock.specs.Setting.{Setting, setting}
+use Rattle.turn_lock.specs.declared.journal.Journal.{Journal}
+use Rattle.session.specs.Talk.{State, Talk}
 use Rattle.session.specs.declared.conversation.Ended.{Ended}
 use Rattle.session.specs.declared.conversation.Ended.TheVariants.{Quit, End, Cut, LongLine, Spent, ReadFault, WriteFault, Memory}
 use Rattle.terrain_main.specs.declared.status.Status.{Status}
@@ -63,19 +64,28 @@ pub record IsGround (set : Setting) : Type 0 where
   pub head : set.head ≡ ground_head
   pub limits : AreFull set.limits
 
--- a store of that surface without entries
-abbrev pub IsEmptyGround : StoreView → Type 0
-IsEmptyGround store = IsGround (setting store) × (store.log ≡ [])
+-- the journal of that surface without entries
+abbrev pub IsEmptyGround : Journal → Type 0
+IsEmptyGround j = IsGround (setting j) × (j.entries ≡ [])
 
 -- the text was written, or a beginning of it where the count of faults rose
 abbrev pub PutsLine : Option (List ℕ) → Option (List ℕ) → ℕ → ℕ → List ℕ → Type 0
 PutsLine written written_now faults faults_now text = (result : Result Unit Failed) × HasCause faults faults_now result × WritesText written written_now result text
 
--- A session on that surface, and the status that its end gives.
-pub record RunsTalk (left left_now written written_now : Option (List ℕ)) (status : Status) : Type 0 where
+-- the two streams of the program as a wire, whose calls have no known order
+abbrev pub both_sides : Option (List ℕ) → Option (List ℕ) → ℕ → ℕ → WireView
+both_sides left written read_faults write_faults = record { left = left; written = written; order = None; read_faults = read_faults; write_faults = write_faults }
+
+-- A session on that surface, by its one author, and the status that its end gives.
+pub record RunsTalk (before after : WireView) (status : Status) : Type 0 where
   pub set : Setting
   pub ground : IsGround set
   pub end : Ended
-  pub log : List Entry
+  pub entries : List Entry
   pub is : status ≡ status_of end
-  pub session : Talk set 1 [] log (2 ^ 40) left left_now written written_now end
+  pub session : Talk (record { setting = set; author = 1; start = 0 }) (2 ^ 40) (record { entries = []; wire = before }) (record { entries = entries; wire = after }) end
+
+-- the words that can be had of a command line, which is none where they can't
+abbrev pub words_or_none : Option (List (String Global)) → List (String Global)
+words_or_none None = []
+words_or_none (Some words) = words

@@ -1,12 +1,13 @@
 //! The commands of the program.
 
-ghost use Rattle.std.specs.Prelude.{◌≡◌, ◌↔◌, ◌^◌, List, true, false, IfOk};
+ghost use Rattle.std.specs.Prelude.{◌≡◌, ◌≢◌, ◌↔◌, ◌^◌, List, [], length, true, false, IfOk, option_map};
 ghost use Rattle.ground_io.specs.Causes.{Rose};
 ghost use Rattle.ground_model.specs.declared.entry.Entry.{Entry};
-ghost use Rattle.session.specs.Stores.{setting};
+ghost use Rattle.turn_lock.specs.Setting.{setting};
 ghost use Rattle.session.specs.Talk.{Talk};
 ghost use Rattle.session.specs.declared.conversation.Ended.TheVariants as ended;
-ghost use Rattle.terrain_main.specs.Commands.{is_talk, IsEmptyGround, fault_line, RunsTalk, PutsLine};
+ghost use Rattle.terrain_main.specs.Commands.{is_talk, IsEmptyGround, both_sides, fault_line, code_of, words_or_none, RunsTalk, PutsLine};
+ghost use Rattle.terrain_main.specs.declared.status.Status.{Status as Ending};
 ghost use Rattle.terrain_main.specs.declared.status.Status.TheVariants.{Usage, ReadFault, WriteFault};
 
 use crate::status::Status;
@@ -53,9 +54,11 @@ fn talk_over<I: Source, O: Sink>(
     input: &mut I,
     output: &mut O,
 ) -> Ended
-    ensures session { (log : List Entry) × Talk (setting store.old) 1 store.old.log log (2 ^ 40) (I.left input.old) (I.left input.new) (O.written output.old) (O.written output.new) result }
+    ensures session { (entries : List Entry) × Talk (record { setting = setting store.old; author = 1; start = length store.old.entries }) (2 ^ 40) (record { entries = store.old.entries; wire = both_sides (I.left input.old) (O.written output.old) (I.read_faults input.old) (O.write_faults output.old) }) (record { entries = entries; wire = both_sides (I.left input.new) (O.written output.new) (I.read_faults input.new) (O.write_faults output.new) }) result }
     ensures read_fault { result ≡ ended.ReadFault → Rose (I.read_faults input.old) (I.read_faults input.new) }
+    ensures reads_passed { result ≢ ended.ReadFault → I.read_faults input.new ≡ I.read_faults input.old }
     ensures write_fault { result ≡ ended.WriteFault → Rose (O.write_faults output.old) (O.write_faults output.new) }
+    ensures writes_passed { result ≢ ended.WriteFault → O.write_faults output.new ≡ O.write_faults output.old }
 {
     let mut link = Pair::new(input, output);
     talk(alloc, store, &mut link, BUDGET)
@@ -63,9 +66,11 @@ fn talk_over<I: Source, O: Sink>(
 
 // A session on the empty surface.
 fn run_talk<I: Source, O: Sink>(alloc: Global, input: &mut I, output: &mut O) -> Status
-    ensures talks { RunsTalk (I.left input.old) (I.left input.new) (O.written output.old) (O.written output.new) result }
+    ensures talks { RunsTalk (both_sides (I.left input.old) (O.written output.old) (I.read_faults input.old) (O.write_faults output.old)) (both_sides (I.left input.new) (O.written output.new) (I.read_faults input.new) (O.write_faults output.new)) result }
     ensures read_fault { result ≡ ReadFault → Rose (I.read_faults input.old) (I.read_faults input.new) }
+    ensures reads_passed { result ≢ ReadFault → I.read_faults input.new ≡ I.read_faults input.old }
     ensures write_fault { result ≡ WriteFault → Rose (O.write_faults output.old) (O.write_faults output.new) }
+    ensures writes_passed { result ≢ WriteFault → O.write_faults output.new ≡ O.write_faults output.old }
 {
     match empty_ground(alloc) {
         Ok(mut store) => Status::of_session(talk_over(alloc, &mut store, input, output)),
@@ -84,13 +89,36 @@ pub fn run<I: Source, O: Sink>(
     ensures usage { (result ≡ Usage) ↔ (is_talk words.now ≡ false) }
     ensures fault_line { result ≡ Usage → PutsLine (O.written output.old) (O.written output.new) (O.write_faults output.old) (O.write_faults output.new) fault_line }
     ensures unread { result ≡ Usage → input.new ≡ input.old }
-    ensures talks { is_talk words.now ≡ true → RunsTalk (I.left input.old) (I.left input.new) (O.written output.old) (O.written output.new) result }
+    ensures talks { is_talk words.now ≡ true → RunsTalk (both_sides (I.left input.old) (O.written output.old) (I.read_faults input.old) (O.write_faults output.old)) (both_sides (I.left input.new) (O.written output.new) (I.read_faults input.new) (O.write_faults output.new)) result }
     ensures read_fault { result ≡ ReadFault → Rose (I.read_faults input.old) (I.read_faults input.new) }
+    ensures reads_passed { result ≢ ReadFault → I.read_faults input.new ≡ I.read_faults input.old }
     ensures write_fault { result ≡ WriteFault → Rose (O.write_faults output.old) (O.write_faults output.new) }
+    ensures writes_passed { is_talk words.now ≡ true → result ≢ WriteFault → O.write_faults output.new ≡ O.write_faults output.old }
 {
     if is_talk_command(words) {
         return run_talk(alloc, input, output);
     }
     let _ = write_all(output, b"fault usage\n");
     Status::Usage
+}
+
+/// What `main` does over its real objects: runs the words, and gives the exit status. Words that
+/// can't be had are no command.
+pub fn exit_status<I: Source, O: Sink>(
+    alloc: Global,
+    words: Option<Vec<String>>,
+    input: &mut I,
+    output: &mut O,
+) -> u8
+    ensures usage { (result ≡ code_of Usage) ↔ (is_talk (words_or_none (option_map (λ w. w.items) words)) ≡ false) }
+    ensures fault_line { result ≡ code_of Usage → PutsLine (O.written output.old) (O.written output.new) (O.write_faults output.old) (O.write_faults output.new) fault_line }
+    ensures unread { result ≡ code_of Usage → input.new ≡ input.old }
+    ensures talks { is_talk (words_or_none (option_map (λ w. w.items) words)) ≡ true → (status : Ending) × (result ≡ code_of status) × RunsTalk (both_sides (I.left input.old) (O.written output.old) (I.read_faults input.old) (O.write_faults output.old)) (both_sides (I.left input.new) (O.written output.new) (I.read_faults input.new) (O.write_faults output.new)) status }
+    ensures read_fault { result ≡ code_of ReadFault → Rose (I.read_faults input.old) (I.read_faults input.new) }
+    ensures write_fault { result ≡ code_of WriteFault → Rose (O.write_faults output.old) (O.write_faults output.new) }
+{
+    match words {
+        Some(words) => run(alloc, words.as_slice(), input, output).code(),
+        None => run(alloc, &[], input, output).code(),
+    }
 }

@@ -4,16 +4,18 @@
 
 mod command;
 #[cfg(test)]
-mod line_tests;
+mod end_tests;
 #[cfg(test)]
-mod refusal_tests;
+mod refusal_texts;
 #[cfg(test)]
 mod reply_tests;
-mod status;
 #[cfg(test)]
-mod tests;
+mod session_texts;
+#[cfg(test)]
+mod sessions;
+mod status;
 
-use command::run;
+use command::exit_status;
 use ground_io::{StdSink, StdSource};
 use std::env;
 use std::process::ExitCode;
@@ -31,9 +33,6 @@ fn words_of_command(rt: &HostRuntime) -> Option<Vec<String>> {
 fn main(rt: HostRuntime) -> ExitCode {
     let mut input = StdSource::new(rt.stdin());
     let mut output = StdSink::new(rt.stdout());
-    let status = match words_of_command(&rt) {
-        Some(words) => run(rt.alloc(), words.as_slice(), &mut input, &mut output),
-        None => run(rt.alloc(), &[], &mut input, &mut output),
-    };
-    ExitCode::from(status.code())
+    let words = words_of_command(&rt);
+    ExitCode::from(exit_status(rt.alloc(), words, &mut input, &mut output))
 }

@@ -152,3 +152,15 @@ state_free (x ∷ es) (suc k) n e = state_free es k n e
 
 pub state_past : (xs : List State) (k : ℕ) → length xs ≤ k → state_at xs k ≡ None
 state_past xs k h = ap joined (slice_get_past xs k h)
+
+state_pushed : (xs : List State) (x : State) → state_at (xs ++ x ∷ []) (length xs) ≡ x
+state_pushed [] x = refl
+state_pushed (y ∷ xs) x = state_pushed xs x
+
+-- the slot that was put is in its state, on the pages
+pub state_put_in : (xs : List State) (k : ℕ) (x : State) → k < length xs → state_at (put xs k x) k ≡ x
+state_put_in xs k x h = ap (λ l. state_at l k) (put_in xs k x h) ∙ ap joined (slice_get-set_same xs k x h)
+
+-- and at their end
+pub state_put_end : (xs : List State) (k : ℕ) (x : State) → k ≡ length xs → state_at (put xs k x) k ≡ x
+state_put_end xs k x e = ap (λ l. state_at l k) (put_end xs k x e) ∙ ap (λ n. state_at (xs ++ x ∷ []) n) e ∙ state_pushed xs x

@@ -11,7 +11,7 @@ state (Free next) = free
 state Taken = blank
 state (Written triangle) = holding triangle
 
--- the mark behind the last free slot
+-- the mark after the last free slot
 abbrev pub end : ℕ
 end = 4294967295
 

@@ -1,4 +1,4 @@
--- Slots: a list of states, slot k at place k, stands for the map from slots to triangles and for the list of the taken slots.
+-- Slots: a list of states, that of slot k at index k, stands for the map from slots to triangles and for the list of the taken slots.
 use Rattle.std.specs.Prelude.{ℕ, suc, Option, Some, None, List, [], ◌∷◌, ◌++◌, length, if◌then◌else◌, ◌==◌, slice_set}
 use Rattle.std.specs.List.{slice_get}
 use Rattle.std.specs.Option.{IsSome}
@@ -43,6 +43,6 @@ taken_from slot (Some o ∷ states) = slot ∷ taken_from (suc slot) states
 abbrev pub taken : List State → List ℕ
 taken pages = taken_from 0 pages
 
--- the same slots, one of them in this state; it may be the first beyond the pages
+-- the slots, one of them now in this state; it may be the first beyond the pages
 abbrev pub put : List State → ℕ → State → List State
 put pages slot state = if slot == length pages then pages ++ state ∷ [] else slice_set pages slot state

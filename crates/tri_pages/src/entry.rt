@@ -5,15 +5,14 @@ ghost use Rattle.std.specs.List.{slice_get};
 ghost use Rattle.tri_pages.specs.declared.entry.Entry.TheVariants.{Free};
 
 use crate::tri_slot::TriSlot;
-use page_vec::PageVec;
+use page_vec::{PageVec, Steps};
 use std::marker::Brand;
 use std::sync::ledger::{Blank, Ledger};
-use step_counter::Steps;
 
-/// The mark behind the last free slot. No slot has this number.
+/// The mark after the last free slot. No slot has this number.
 pub(crate) const END: u32 = 4_294_967_295;
 
-/// A free slot names the free slot that is taken after it.
+/// What is kept for a slot. A free slot names the free slot that is taken after it.
 #[derive(Clone, Copy)]
 pub(crate) enum Entry {
     Free(u32),
@@ -21,6 +20,7 @@ pub(crate) enum Entry {
     Written(TriSlot),
 }
 
+// What is kept for a slot, read on a counter that starts here.
 fn entry_on<L: Ledger>(entries: &PageVec<Entry>, slot: u32, blank: Blank) -> Option<Entry>
     requires name { blank.name ≡ L.name }
     requires parts { blank.parts ≡ L.parts }
@@ -38,7 +38,7 @@ pub(crate) fn entry_at(entries: &PageVec<Entry>, slot: u32) -> Option<Entry>
     entry_on::<Brand>(entries, slot, Blank::new(1))
 }
 
-/// The free slot behind a free one.
+/// The free slot after a free one in the chain.
 pub(crate) fn next_free(entries: &PageVec<Entry>, slot: u32) -> u32
     ensures { (n : ℕ) → slice_get entries.now slot ≡ Some (Free n) → result ≡ n }
 {

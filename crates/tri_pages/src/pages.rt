@@ -6,18 +6,16 @@ ghost use Rattle.tri_pages.specs.Slots.{state_at, triangle_at, taken, IsTaken, p
 
 use crate::entry::{END, Entry, entry_at, next_free};
 use crate::tri_slot::TriSlot;
-use page_vec::PageVec;
+use page_vec::{PageVec, Steps};
 use std::alloc::{AllocError, Global};
 use std::marker::Model;
 use std::sync::ledger::Ledger;
-use step_counter::Steps;
 
 /// A map from slots to triangles, with the list of the taken slots, on pages that versions share.
 ///
 /// A slot is free, taken and not yet written, or holds a triangle. Free slots are chained through
-/// the pages, the one that was given back last in front: it is found without a look at another
-/// page, and the triangles that take the place of others stand in the slots, and so on the pages,
-/// of those. A page is added only where no slot is free.
+/// the pages, the one that was given back last first: new triangles stand in the slots, and so on
+/// the pages, of those that they replace. A page is added only where no slot is free.
 #[derive(Drop)]
 pub struct TriPages {
     entries: PageVec<Entry>,
@@ -39,7 +37,7 @@ impl Model for TriPages {
 impl TriPages {
     /// The map with every slot free. It takes no memory.
     pub fn empty(alloc: Global) -> TriPages
-        ensures { result ≡ [] }
+        ensures empty { result ≡ [] }
     {
         TriPages {
             entries: PageVec::empty(alloc),
@@ -47,7 +45,7 @@ impl TriPages {
         }
     }
 
-    /// How many slots have a place on the pages, taken or free. No slot beyond them is taken.
+    /// How many slots the pages have, taken or free. No slot beyond them is taken.
     pub fn len(&self) -> u32
         ensures len { result ≡ length self.now }
         ensures bound { result ≤ 2 ^ 30 }
@@ -55,10 +53,10 @@ impl TriPages {
         self.entries.len()
     }
 
-    /// Whether a slot is taken, written or not: the test for `write` and `give_back`. It is no
-    /// page step, as a caller of those two knows the answer.
+    /// Whether a slot is taken, written or not: the test for `write` and `give_back`. It counts no
+    /// step, as a caller of those two knows the answer.
     pub fn is_taken(&self, slot: u32) -> bool
-        ensures { IsTrue result ↔ IsTaken self.now slot }
+        ensures taken { IsTrue result ↔ IsTaken self.now slot }
     {
         match entry_at(&self.entries, slot) {
             Some(Entry::Taken) => true,
@@ -95,11 +93,13 @@ impl TriPages {
         Ok(())
     }
 
-    /// Takes a free slot, which has no triangle until one is written.
+    /// Takes a free slot, which has no triangle until one is written: the one that was given back
+    /// last, or where no slot of the pages is free the first beyond them.
     pub fn take_free<L: Ledger>(&mut self, steps: &mut Steps<L>) -> Result<u32, AllocError>
         requires { length (taken self.old) < 2 ^ 30 }
         ensures within { IfOk result (λ slot. slot < 2 ^ 30) }
         ensures was_free { IfOk result (λ slot. state_at self.old slot ≡ free) }
+        ensures taken { IfOk result (λ slot. state_at self.new slot ≡ blank) }
         ensures ok { IfOk result (λ slot. self.new ≡ put self.old slot blank) }
         ensures err { OnErr result (self.new ≡ self.old) }
         ensures cost { steps.new ≡ steps.old + 1 }
@@ -137,9 +137,9 @@ impl TriPages {
         Ok(())
     }
 
-    /// Another version of the same map, on the same pages.
+    /// Another version of the map, on its pages.
     pub fn share(&self) -> Result<TriPages, AllocError>
-        ensures { IfOk result (λ p. p ≡ self.now) }
+        ensures same { IfOk result (λ p. p ≡ self.now) }
     {
         Ok(TriPages {
             entries: self.entries.share()?,

@@ -27,7 +27,7 @@ pub or_right : (a b : Bool) → (a || b) ≡ false → b ≡ false
 or_right true b e = absurd (true≢false e)
 or_right false b e = e
 
--- who is at a place is in the queue
+-- who stands in the queue at an index is in it
 pub present : (queue : List ℕ) (k j : ℕ) → get_elem? queue k ≡ some j → list_any (eqb j) queue ≡ true
 present [] k j e = absurd (some-ne-none j (sym e))
 present (q ∷ queue) zero j e = ap (λ b. b || list_any (eqb j) queue) (eq-eqb j q (sym (some-injective q j e)))

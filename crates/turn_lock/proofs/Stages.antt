@@ -14,7 +14,7 @@ use Rattle.turn_lock.specs.declared.view.Stage.TheVariants.{Idle, Joined, Waits,
 use Rattle.turn_lock.specs.Rule.{ticket, AtStage, IsHolding, IsSeat}
 use Rattle.turn_lock.proofs.Queue.{at_one, or_right, in_pushed}
 
--- when the seat id goes behind the queue
+-- when the seat id goes to the end of the queue
 pub stage_pushed : (log : Journal) (first : ℕ) (queue : List ℕ) (out : Bool) (j id : ℕ) (seen : Journal) (st : Stage) → j ≢ id → AtStage log first queue out j seen st → AtStage log first (queue ++ id ∷ []) out j seen st
 stage_pushed log first queue out j id seen Idle ne h = in_pushed queue id j ne ∙ h
 stage_pushed log first queue out j id seen (Joined x y) ne h = (in_pushed queue id j ne ∙ h.0, h.1, h.2)

@@ -4,7 +4,7 @@ use Rattle.std.specs.List.{filter, Contains, All}
 use Rattle.ground_model.specs.declared.entry.Entry.{Entry}
 use Rattle.turn_lock.specs.declared.journal.Journal.{Journal}
 
--- the journal with more entries behind
+-- the journal with more entries after its own
 abbrev pub extended : Journal → List Entry → Journal
 extended j more = record j { entries = j.entries ++ more }
 

@@ -1,4 +1,5 @@
 pub mod Journal
+pub mod Setting
 pub mod Seat
 pub mod Rule
 pub mod Steps

@@ -1,4 +1,4 @@
--- What each step tells the seat that takes it.
+-- What a seat knows after each step that it takes.
 use Rattle.std.specs.Prelude.{◌≡◌, ◌≢◌, ⊤, ℕ, ◌+◌, ◌%◌, ◌^◌, ◌≤◌, max, pos, [], ◌∷◌, ◌++◌, length, Option, Some}
 use Rattle.std.specs.List.{All}
 use Rattle.atomic_table.specs.Table.{Me, Step}

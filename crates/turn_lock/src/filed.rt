@@ -11,5 +11,5 @@ pub trait Filed {
 
     /// How many entries the journal has.
     fn filed(&self) -> u32
-        ensures { result ≡ length (journal self.now).entries };
+        ensures count { result ≡ length (journal self.now).entries };
 }

@@ -1,4 +1,4 @@
-//! What a value under the lock is seen as.
+//! The journal of a surface, as which contracts see the value under the lock.
 
 use ground_model::{Entry, Limits, Listed};
 use ground_num::Head;

@@ -10,7 +10,7 @@ ghost use Rattle.turn_lock.specs.declared.view.Stage.TheVariants.{Waits, Holds};
 use crate::filed::Filed;
 use crate::seat::TurnSeat;
 use crate::steps::{
-    Board, Draw, FRONT, Look, Merge, Place, Recall, SERVING, Serve, SharedBoard, TICKET,
+    Board, Draw, FRONT, Look, Merge, Recall, SERVING, Serve, SharedBoard, TICKET, TableSeat,
 };
 use crate::turn::Turn;
 use std::marker::Model;
@@ -40,26 +40,31 @@ impl<S: Filed> Model for TurnLock<S> {
 }
 
 // Waits until the ticket is served, and takes the slot.
-fn wait_for<S: Filed, R: Wait>(rt: &R, board: &SharedBoard<S>, place: &mut Place<S>, mine: u64) -> S
-    requires table { (place.old.table_id ≡ board.now.table_id) × (board.now.table_id.words ≡ 3) }
-    requires seat { (place.old.me.1 ≡ [])
-        × (place.old.me.0.stage ≡ Waits (ticket_of place.old.me.0.stage))
-        × (mine ≡ ticket_of place.old.me.0.stage % 2 ^ 64) }
-    ensures table { place.new.table_id ≡ place.old.table_id }
-    ensures seat { place.new.me
+fn wait_for<S: Filed, R: Wait>(
+    rt: &R,
+    board: &SharedBoard<S>,
+    table_seat: &mut TableSeat<S>,
+    mine: u64,
+) -> S
+    requires table { (table_seat.old.table_id ≡ board.now.table_id) × (board.now.table_id.words ≡ 3) }
+    requires seat { (table_seat.old.me.1 ≡ [])
+        × (table_seat.old.me.0.stage ≡ Waits (ticket_of table_seat.old.me.0.stage))
+        × (mine ≡ ticket_of table_seat.old.me.0.stage % 2 ^ 64) }
+    ensures table { table_seat.new.table_id ≡ table_seat.old.table_id }
+    ensures seat { table_seat.new.me
         ≡ (
-          record place.old.me.0 {
-            stage = Holds (ticket_of place.old.me.0.stage);
+          record table_seat.old.me.0 {
+            stage = Holds (ticket_of table_seat.old.me.0.stage);
             seen = S.journal result;
           },
           (0, None) ∷ [],
         ) }
-    ensures added { OthersAdded place.old.me.0.numbers place.old.me.0.seen (S.journal result) }
+    ensures added { OthersAdded table_seat.old.me.0.numbers table_seat.old.me.0.seen (S.journal result) }
 {
     for _ in rt.forever() {
-        let now = board.load::<Serve>(place, SERVING);
+        let now = board.load::<Serve>(table_seat, SERVING);
         if now == mine {
-            return board.exchange(place, 0, None).unwrap();
+            return board.exchange(table_seat, 0, None).unwrap();
         }
         thread::yield_now();
     }
@@ -79,15 +84,15 @@ impl<S: Filed> TurnLock<S> {
             front: _,
             number,
         } = seat;
-        let mut place: Place<S> = badge.into_seat();
+        let mut table_seat: TableSeat<S> = badge.into_seat();
         let board = &self.board.shared;
-        let ticket = board.fetch_add::<Draw>(&mut place, TICKET, 1);
-        let value = wait_for(rt, board, &mut place, ticket);
-        board.load::<Look>(&mut place, FRONT);
+        let ticket = board.fetch_add::<Draw>(&mut table_seat, TICKET, 1);
+        let value = wait_for(rt, board, &mut table_seat, ticket);
+        board.load::<Look>(&mut table_seat, FRONT);
         let front = value.filed();
         let turn = Turn {
             lock: self,
-            place,
+            table_seat,
             front,
             ticket,
             number,
@@ -112,12 +117,12 @@ impl<S: Filed> TurnLock<S> {
             front: other_front,
             number: _,
         } = b;
-        let mut place: Place<S> = badge.into_seat();
+        let mut table_seat: TableSeat<S> = badge.into_seat();
         let board = &self.board.shared;
-        board.join_seat::<Merge>(&mut place, other.into_seat());
-        board.load::<Recall>(&mut place, FRONT);
+        board.join_seat::<Merge>(&mut table_seat, other.into_seat());
+        board.load::<Recall>(&mut table_seat, FRONT);
         TurnSeat {
-            badge: place.into_badge(),
+            badge: table_seat.into_badge(),
             front: front.max(other_front),
             number,
         }

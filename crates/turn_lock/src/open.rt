@@ -8,7 +8,7 @@ ghost use Rattle.turn_lock.specs.Steps.{opener};
 use crate::filed::Filed;
 use crate::lock::TurnLock;
 use crate::seat::TurnSeat;
-use crate::steps::{Another, Board, Key, Place, SharedBoard};
+use crate::steps::{Another, Board, Key, SharedBoard, TableSeat};
 use atomic_table::{Refused, Table};
 use std::alloc::{AllocFailed, Global};
 use std::snapshot::Snapshot;
@@ -19,7 +19,7 @@ fn open_board<S: Filed>(
     value: S,
     front: u32,
     seats: u16,
-) -> Result<(Board<S>, Place<S>), S>
+) -> Result<(Board<S>, TableSeat<S>), S>
     requires { (0 < seats) × (front ≡ length (S.journal value).entries) }
     ensures table { IfOk result (λ r. (r.0.shared.table_id.words ≡ 3)
         × (r.0.shared.table_id.slots ≡ 1)
@@ -52,29 +52,29 @@ fn open_board<S: Filed>(
 // Splits the first seat into itself and the seats from number 2 on.
 fn split_seats<S: Filed>(
     board: &SharedBoard<S>,
-    place: &mut Place<S>,
+    table_seat: &mut TableSeat<S>,
     others: &mut Vec<TurnSeat>,
     front: u32,
     more: u16,
 )
-    requires table { (place.old.table_id ≡ board.now.table_id) × (board.now.table_id.words ≡ 3) }
-    requires seat { (place.old.me.1 ≡ [])
-        × (place.old.me.0.given ≡ 1)
-        × (front ≡ length place.old.me.0.seen.entries)
-        × IsSeat place.old.me.0 }
+    requires table { (table_seat.old.table_id ≡ board.now.table_id) × (board.now.table_id.words ≡ 3) }
+    requires seat { (table_seat.old.me.1 ≡ [])
+        × (table_seat.old.me.0.given ≡ 1)
+        × (front ≡ length table_seat.old.me.0.seen.entries)
+        × IsSeat table_seat.old.me.0 }
     requires room { (vec_len others.old ≡ 0)
         × (more < vec_capacity others.old)
         × (1 + more ≤ board.now.key.seats)
         × (more < 16) }
-    ensures table { place.new.table_id ≡ place.old.table_id }
-    ensures seat { place.new.me ≡ (record place.old.me.0 { given = 1 + more }, []) }
+    ensures table { table_seat.new.table_id ≡ table_seat.old.table_id }
+    ensures seat { table_seat.new.me ≡ (record table_seat.old.me.0 { given = 1 + more }, []) }
     ensures count { vec_len others.new ≡ more }
     ensures others { (k : ℕ) → k < more → slice_get others.new.items k
-        ≡ Some (fresh_seat board.now.table_id place.old.me.0.seen (k + 2)) }
+        ≡ Some (fresh_seat board.now.table_id table_seat.old.me.0.seen (k + 2)) }
     ensures room { vec_capacity others.new ≡ vec_capacity others.old }
 {
     for i in 0..more {
-        let badge = board.split_seat::<Another>(place).into_badge();
+        let badge = board.split_seat::<Another>(table_seat).into_badge();
         others.push_reserved(TurnSeat {
             badge,
             front,
@@ -85,7 +85,7 @@ fn split_seats<S: Filed>(
 
 impl<S: Filed> TurnLock<S> {
     /// A lock over the value, and its seats in the order of their numbers.
-    /// Want of memory hands the value back.
+    /// Where memory can't be had, it hands the value back.
     pub fn new(alloc: Global, value: S, seats: u16) -> Result<(TurnLock<S>, Vec<TurnSeat>), S>
         requires { (0 < seats) × (seats ≤ 16) }
         ensures lock { IfOk result (λ r. (r.0.opening ≡ S.journal value) × (r.0.seats ≡ seats)) }

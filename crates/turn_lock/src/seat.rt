@@ -30,14 +30,14 @@ impl Model for TurnSeat {
 impl TurnSeat {
     /// How many entries it has seen.
     pub fn front(&self) -> u32
-        ensures { result ≡ length self.now.seen.entries }
+        ensures front { result ≡ length self.now.seen.entries }
     {
         self.front
     }
 
     /// Its own number, which is the author of what it notes.
     pub fn number(&self) -> u16
-        ensures { result ≡ self.now.number }
+        ensures number { result ≡ self.now.number }
     {
         self.number
     }

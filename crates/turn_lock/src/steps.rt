@@ -43,11 +43,14 @@ impl<S: Filed> TableRule<Option<S>, View, Key<S>> for Turns<S> {
     ghost first = { λ key. opener (S.journal key.opening.value) };
 }
 
+/// The lock's table, as its owner has it.
 pub type Board<S> = Table<Option<S>, View, Key<S>, Turns<S>, Global>;
 
+/// The lock's table, as its seats share it.
 pub type SharedBoard<S> = Shared<Option<S>, View, Key<S>, Turns<S>>;
 
-pub type Place<S> = Seat<Option<S>, View>;
+/// A seat at the lock's table.
+pub type TableSeat<S> = Seat<Option<S>, View>;
 
 /// A seat draws a ticket.
 pub struct Draw;

@@ -13,7 +13,7 @@ use std::sync::Wait;
 use std::thread;
 use std::thread::Threads;
 
-/// A value with a journal and nothing else.
+// A value with a journal and nothing else.
 #[derive(Drop)]
 struct Book {
     head: Head,
@@ -55,7 +55,7 @@ fn entry_of(author: u16, number: u32) -> Entry
     }
 }
 
-/// One turn, in which the seat's author makes the entry of this number.
+// One turn, in which the seat's author makes the entry of this number.
 fn make_entry<R: Wait>(rt: &R, lock: &TurnLock<Book>, seat: TurnSeat, number: u32) -> TurnSeat
     requires { seat.table ≡ lock.now.table }
     ensures { (result.table ≡ seat.table) × (numbers_of result ≡ numbers_of seat) }
@@ -69,7 +69,7 @@ fn make_entry<R: Wait>(rt: &R, lock: &TurnLock<Book>, seat: TurnSeat, number: u3
     }
 }
 
-/// As many turns of the seat.
+// Turns of the seat, in which its author makes the entries from 1 to `count`.
 fn make_entries<R: Wait>(rt: &R, lock: &TurnLock<Book>, seat: TurnSeat, count: u32) -> TurnSeat
     requires { seat.table ≡ lock.now.table }
     ensures { (result.table ≡ seat.table) × (numbers_of result ≡ numbers_of seat) }
@@ -81,7 +81,7 @@ fn make_entries<R: Wait>(rt: &R, lock: &TurnLock<Book>, seat: TurnSeat, count: u
     seat
 }
 
-/// The same, each seat in a thread of its own.
+// Each seat has so many turns, in a thread of its own.
 fn make_in_threads<R: Threads + Wait + Sync + Abort>(
     rt: &R,
     lock: &TurnLock<Book>,
@@ -105,7 +105,7 @@ fn make_in_threads<R: Threads + Wait + Sync + Abort>(
     made
 }
 
-/// Joins all seats, each after it made as many entries. The order is one of `n!`.
+// Joins all seats, each after it made as many entries. The order is one of `n!`.
 fn join_all<R: Wait>(
     rt: &R,
     lock: &TurnLock<Book>,

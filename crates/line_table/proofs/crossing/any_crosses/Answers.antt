@@ -1,7 +1,7 @@
 use Rattle.std.proofs.Common.{rules, tests, refl}
 use Rattle.std.proofs.lemmas.Iterator.Consumers.{YieldsList-from_first}
 use Rattle.std.proofs.lemmas.Iterator.Search.{any_from_yields_List}
-use Rattle.line_table.specs.Crossings.{link_crosses}
+use Rattle.ground_model.specs.Crossings.{link_crosses}
 use Rattle.line_table.proofs.crossing.any_crosses.Goals as goal
 
 pub returns : goal.returns

@@ -1,7 +1,7 @@
 use Rattle.std.proofs.Common.{rules, tests, refl}
 use Rattle.std.proofs.lemmas.Iterator.Consumers.{YieldsList-from_first}
 use Rattle.std.proofs.lemmas.Iterator.Search.{any_from_yields_List}
-use Rattle.line_table.specs.Crossings.{cross_between}
+use Rattle.ground_model.specs.Crossings.{cross_between}
 use Rattle.line_table.proofs.crossing.crosses_any.Goals as goal
 
 pub returns : goal.returns

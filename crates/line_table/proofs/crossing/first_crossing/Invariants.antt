@@ -1,6 +1,6 @@
 use Rattle.std.proofs.Common.{◌≡◌, ◌+◌, length}
 use Rattle.std.specs.List.{position_from}
-use Rattle.line_table.specs.Crossings.{cross_between}
+use Rattle.ground_model.specs.Crossings.{cross_between}
 use Rattle.line_table.proofs.crossing.first_crossing.Given as goal
 
 abbrev pub invariant-loop-link : goal.invariant-loop-link

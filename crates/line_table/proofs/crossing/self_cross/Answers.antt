@@ -1,6 +1,6 @@
 use Rattle.std.proofs.Common.{◌+◌, arith, ap, sym, ◌∙◌, length}
 use Rattle.std.specs.List.{position_from}
-use Rattle.line_table.specs.Crossings.{cross_between}
+use Rattle.ground_model.specs.Crossings.{cross_between}
 use Rattle.line_table.proofs.SelfCrossings.{pair_from, pair-nil, pair-some, pair-none, self_cross-is, few_links}
 use Rattle.line_table.proofs.crossing.self_cross.Goals as goal
 

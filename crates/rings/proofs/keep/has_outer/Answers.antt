@@ -2,7 +2,7 @@ use Rattle.std.proofs.Common.{rules}
 use Rattle.std.specs.FinMap as finmap
 use Rattle.std.proofs.lemmas.Iterator.Search.{any_from_yields_List}
 use borrow.Author.Tests.{tests}
-use Rattle.ground_model.specs.Kept.{is_outer}
+use Rattle.ground_model.specs.Kind.{is_outer}
 use Rattle.rings.proofs.Entries.{lines-first}
 use Rattle.rings.proofs.keep.has_outer.Goals as goal
 

@@ -3,7 +3,8 @@ use Rattle.std.specs.Prelude.{◌&&◌}
 use Rattle.std.specs.FinMap as finmap
 use Rattle.std.proofs.lemmas.Iterator.Search.{any_from_yields_List}
 use borrow.Author.Tests.{tests}
-use Rattle.ground_model.specs.Kept.{is_outer, lies_in_ring}
+use Rattle.ground_model.specs.Kept.{lies_in_ring}
+use Rattle.ground_model.specs.Kind.{is_outer}
 use Rattle.rings.proofs.Entries.{lines-first}
 use Rattle.rings.proofs.keep.has_outer_round.Goals as goal
 

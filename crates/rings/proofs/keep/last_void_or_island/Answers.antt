@@ -3,7 +3,8 @@ use Rattle.std.specs.Prelude.{◌&&◌}
 use Rattle.std.specs.FinMap as finmap
 use Rattle.std.proofs.lemmas.Iterator.Search.{find_from_yields_List}
 use borrow.Author.Tests.{tests}
-use Rattle.ground_model.specs.Kept.{is_void_or_island, lies_in_ring}
+use Rattle.ground_model.specs.Kept.{lies_in_ring}
+use Rattle.ground_model.specs.Kind.{is_void_or_island}
 use Rattle.rings.proofs.Entries.{lines-last}
 use Rattle.rings.proofs.keep.last_void_or_island.Goals as goal
 

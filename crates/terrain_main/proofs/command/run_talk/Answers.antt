@@ -1,9 +1,9 @@
-use Rattle.session.specs.Stores.{setting}
+use Rattle.turn_lock.specs.Setting.{setting}
 use Rattle.terrain_main.proofs.FullLimits.{without_memory}
 use Rattle.terrain_main.proofs.command.run_talk.Goals as goal
 
 pub returns-in-Err-clause-talks : goal.returns-in-Err-clause-talks
-returns-in-Err-clause-talks g c = without_memory (g.I.Source.left c.args.input.now) (g.O.Sink.written c.args.output.now)
+returns-in-Err-clause-talks g c = without_memory _
 
 pub returns-in-Ok-clause-talks : goal.returns-in-Ok-clause-talks
 returns-in-Ok-clause-talks g c =
@@ -12,7 +12,7 @@ returns-in-Ok-clause-talks g c =
       set = setting c.in-Ok.store;
       ground = c.in-Ok.ensures.0;
       end = c.talk_over.result;
-      log = session.0;
+      entries = session.0;
       is = c.of_session.ensures;
       session = rw c.in-Ok.ensures.1 at session.1;
     }

@@ -13,7 +13,7 @@ load-now-requires g c =
 pub exchange-requires : goal.exchange-requires
 exchange-requires g c =
     let same = c.loop.invariant.1 in
-    let mine : c.load-now.result ≡ ticket c.loop.place.me.0.stage % 2 ^ 64 = c.if-now-mine.true ∙ (c.requires.seat.2 ∙ ap (λ m. ticket m.0.stage % 2 ^ 64) (sym same)) in
+    let mine : c.load-now.result ≡ ticket c.loop.table_seat.me.0.stage % 2 ^ 64 = c.if-now-mine.true ∙ (c.requires.seat.2 ∙ ap (λ m. ticket m.0.stage % 2 ^ 64) (sym same)) in
     let took = c.load-now.ensures.2.0 mine in
     let bare = ap (λ m. m.1) took.2 ∙ ap (λ cs. (0, Some took.0) ∷ cs) (ap (λ m. m.1) same ∙ c.requires.seat.0) in
     (search rules, (_, bare ∙ ap (λ cs. (0, Some took.0) ∷ rest cs) (sym bare)))

@@ -2,4 +2,4 @@ use Rattle.std.proofs.Common.{◌≡◌}
 use Rattle.turn_lock.proofs.lock.wait_for.Given as goal
 
 abbrev pub invariant-loop : goal.invariant-loop
-invariant-loop g l = (l.place.table_id ≡ l.initial.place.table_id) × (l.place.me ≡ l.initial.place.me)
+invariant-loop g l = (l.table_seat.table_id ≡ l.initial.table_seat.table_id) × (l.table_seat.me ≡ l.initial.table_seat.me)

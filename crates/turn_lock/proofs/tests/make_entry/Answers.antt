@@ -15,5 +15,5 @@ leave-requires g c =
     let more = c.if-add.ensures.entries in
     let added : record { head = c.add.new.self.head; limits = c.add.new.self.limits; entries = c.add.new.self.entries.items } ≡ extended before (e ∷ []) = (λ i. record { head = same.0 i; limits = same.1 i; entries = more.0 i }) in
     let found = ap (λ (s : Seat). s.seen) c.take-turn.ensures.turn in
-    let noted = ap (λ (s : Seat). s.seen) c.note.ensures in
+    let noted = ap (λ (s : Seat). s.seen) c.note.ensures.noted in
     added ∙ (ap (λ (x : Entry). extended before (x ∷ [])) (c.entry_of.ensures ∙ sym c.entry_of-then-add.ensures) ∙ sym (noted ∙ ap (λ (j : Journal). extended j (e' ∷ [])) found))

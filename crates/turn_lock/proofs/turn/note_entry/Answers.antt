@@ -6,5 +6,5 @@ use Rattle.turn_lock.proofs.turn.note_entry.Goals as goal
 
 pub store-requires : goal.store-requires
 store-requires g c =
-    let own = subst (λ (e : Entry). Contains c.args.place.now.me.0.numbers e.author) c.requires.picked c.requires.own in
+    let own = subst (λ (e : Entry). Contains c.args.table_seat.now.me.0.numbers e.author) c.requires.picked c.requires.own in
     (search rules, search rules, notes g.S.Filed.journal _ _ _ _ _ _ g.J.Noted.entry _ c.requires.seat.0 own (search rules))

@@ -1,7 +1,8 @@
 use Rattle.std.proofs.Common.{sym, ap, ◌∙◌, subst, arith, length, ◌+◌, ◌^◌, ◌<◌}
 use Rattle.std.specs.FinMap as finmap
 use Rattle.ground_model.specs.Line.{Line}
-use Rattle.line_table.specs.Table.{Table, IsSound, with_line}
+use Rattle.ground_model.specs.Table.{Table, with_line}
+use Rattle.line_table.specs.Sound.{IsSound}
 use Rattle.line_table.proofs.Tables.{added, sound-added, sorted_from, places-small, len_of}
 use Rattle.line_table.proofs.lines.Lines.add.Goals as goal
 

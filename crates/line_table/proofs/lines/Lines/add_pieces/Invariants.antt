@@ -1,6 +1,6 @@
 use Rattle.std.proofs.Common.{◌≡◌, ◌++◌}
 use Rattle.std.specs.Prelude.{map, take}
-use Rattle.line_table.specs.Table.{live}
+use Rattle.ground_model.specs.Table.{live}
 use Rattle.line_table.specs.Ends.{count_over}
 use Rattle.line_table.proofs.lines.Lines.add_pieces.Given as goal
 

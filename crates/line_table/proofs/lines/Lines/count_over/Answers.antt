@@ -3,7 +3,7 @@ use Rattle.std.specs.Prelude.{map, count_by}
 use Rattle.std.proofs.lemmas.Iterator.Consumers.{count_from_yields_List, YieldsList-from_filter, YieldsList-from_rest}
 use Rattle.std.proofs.lemmas.List.Sums.{length-filter}
 use Rattle.ground_model.specs.Line.{Line}
-use Rattle.line_table.specs.Table.{live}
+use Rattle.ground_model.specs.Table.{live}
 use Rattle.line_table.specs.Ends.{spans}
 use Rattle.line_table.proofs.Tables.{entries_of}
 use Rattle.line_table.proofs.lines.Lines.count_over.Goals as goal

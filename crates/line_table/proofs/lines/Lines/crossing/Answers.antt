@@ -2,5 +2,5 @@ use Rattle.std.proofs.Common.{◌∙◌}
 use Rattle.line_table.proofs.Joined.{number-map, least_crossing}
 use Rattle.line_table.proofs.lines.Lines.crossing.Goals as goal
 
-pub returns : goal.returns
-returns c = λ all enough on. c.number_of.ensures ∙ number-map c.entry_crossing.result _ c.entry_crossing.ensures ∙ least_crossing all c.args.points.now (c.args.p, c.args.q) c.args.self.now enough on
+pub returns-clause-found : goal.returns-clause-found
+returns-clause-found c = c.number_of.ensures ∙ number-map c.entry_crossing.result _ c.entry_crossing.ensures ∙ least_crossing c.args.points.now (c.args.p, c.args.q) c.args.self.now c.requires

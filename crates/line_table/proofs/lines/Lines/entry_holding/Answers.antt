@@ -2,7 +2,7 @@ use Rattle.std.proofs.Common.{rules, tests}
 use Rattle.std.specs.FinMap as finmap
 use Rattle.std.proofs.lemmas.Iterator.Consumers.{YieldsList-from_first}
 use Rattle.std.proofs.lemmas.Iterator.Search.{find_from_yields_List}
-use Rattle.line_table.specs.Table.{has_place}
+use Rattle.ground_model.specs.Line.{has_place}
 use Rattle.line_table.proofs.lines.Lines.entry_holding.Goals as goal
 
 pub returns : goal.returns

@@ -1,4 +1,4 @@
-use Rattle.line_table.specs.Table.{live}
+use Rattle.ground_model.specs.Table.{live}
 use Rattle.line_table.proofs.Rows.{all_ends}
 use Rattle.line_table.proofs.lines.Lines.find_ends.Goals as goal
 

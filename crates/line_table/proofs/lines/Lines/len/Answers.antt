@@ -1,6 +1,6 @@
 use Rattle.std.proofs.Common.{sym, ap, ◌∙◌, length}
 use Rattle.std.specs.FinMap as finmap
-use Rattle.line_table.specs.Table.{Table}
+use Rattle.ground_model.specs.Table.{Table}
 use Rattle.line_table.proofs.Tables.{entries_of}
 use Rattle.line_table.proofs.lines.Lines.len.Goals as goal
 

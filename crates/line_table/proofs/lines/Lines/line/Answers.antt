@@ -1,7 +1,7 @@
 use Rattle.std.proofs.Common.{sym, ap, ◌∙◌}
 use Rattle.std.specs.Prelude.{Some}
 use Rattle.std.specs.FinMap as finmap
-use Rattle.line_table.specs.Table.{Table}
+use Rattle.ground_model.specs.Table.{Table}
 use Rattle.line_table.proofs.Tables.{get_of}
 use Rattle.line_table.proofs.lines.Lines.line.Goals as goal
 

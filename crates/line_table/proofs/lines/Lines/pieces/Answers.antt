@@ -3,7 +3,7 @@ use Rattle.std.specs.Prelude.{map}
 use Rattle.std.specs.List.{flat_map}
 use Rattle.std.proofs.lemmas.List.{nil_from_length}
 use Rattle.ground_model.specs.Place.{Coords}
-use Rattle.line_table.specs.Table.{live}
+use Rattle.ground_model.specs.Table.{live}
 use Rattle.line_table.specs.Ends.{count_over}
 use Rattle.line_table.proofs.Rows.{all_row, all_rows, all_step}
 use Rattle.line_table.proofs.lines.Lines.pieces.Goals as goal

@@ -4,7 +4,7 @@ use Rattle.std.specs.List.{flat_map}
 use Rattle.std.specs.FinMap as finmap
 use Rattle.std.proofs.lemmas.List.{nil_from_length}
 use Rattle.ground_model.specs.Place.{Coords}
-use Rattle.line_table.specs.Table.{live, counted_pieces}
+use Rattle.ground_model.specs.Table.{live, counted_pieces}
 use Rattle.line_table.specs.Ends.{count_over}
 use Rattle.line_table.proofs.Rows.{line_row, line_rows, line_step, of_line}
 use Rattle.line_table.proofs.EnoughPoints.{found-enough}

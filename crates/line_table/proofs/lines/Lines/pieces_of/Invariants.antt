@@ -1,7 +1,7 @@
 use Rattle.std.proofs.Common.{◌≡◌, ◌++◌, List, length}
 use Rattle.std.specs.List.{flat_map}
 use Rattle.ground_model.specs.Place.{Coords}
-use Rattle.line_table.specs.Table.{live}
+use Rattle.ground_model.specs.Table.{live}
 use Rattle.line_table.proofs.Rows.{line_row}
 use Rattle.line_table.proofs.lines.Lines.pieces_of.Given as goal
 

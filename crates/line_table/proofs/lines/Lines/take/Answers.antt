@@ -1,8 +1,9 @@
 use Rattle.std.proofs.Common.{◌≡◌, sym, ap, ◌∙◌, subst, length, ◌-◌}
-use Rattle.std.specs.Prelude.{Some}
+use Rattle.std.specs.Prelude.{Option, None, Some}
 use Rattle.std.specs.FinMap as finmap
 use Rattle.ground_model.specs.Line.{Line}
-use Rattle.line_table.specs.Table.{Table, IsSound, without_line}
+use Rattle.ground_model.specs.Table.{Table, without_line}
+use Rattle.line_table.specs.Sound.{IsSound}
 use Rattle.line_table.proofs.Tables.{get_of, line-is, absent, removed, sound-removed, sorted_from}
 use Rattle.line_table.proofs.lines.Lines.take.Goals as goal
 
@@ -27,3 +28,10 @@ returns-clause-line c =
 pub returns-clause-ok : goal.returns-clause-ok
 returns-clause-ok c =
     ap (λ m. record { lines = m; next = c.self.inside.next }) (removed c.self.inside.lines.entries c.remove.new.self.entries c.args.id.0 c.self.invariant.in_order (sorted_from _ c.remove.ensures.ordered) c.remove.ensures.updates.0) ∙ ap (λ t. without_line t c.args.id.0) c.self.view_is
+
+-- no copy is made where there is no line
+some_or_none : {X : Type 0} (x : X) (found : Option X) → Some x ≡ found → found ≡ None → ⊥
+some_or_none x found some none = cc
+
+pub returns-in_err-places-clause-absent : goal.returns-in_err-places-clause-absent
+returns-in_err-places-clause-absent c = λ none. absurd (some_or_none c.in-Some.line.now _ (c.in-Some.ensures.value ∙ sym (get_of _ c.args.id.0 c.self.invariant.in_order) ∙ ap (λ (t : Table). finmap.get t.lines c.args.id.0) c.self.view_is) none)

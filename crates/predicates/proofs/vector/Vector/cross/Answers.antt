@@ -13,3 +13,6 @@ pub returns-clause-size : goal.returns-clause-size
 returns-clause-size c = size_along _ (c.times.result -ℤ c.times-2.result) _
     (read_op ◌-ℤ◌ w64 c.times.result c.times-2.result (search rules) (search rules) (omega (arith, ints)))
     (omega (arith, ints))
+
+pub overflow_sub-result : goal.overflow_sub-result
+overflow_sub-result c = search rules

@@ -10,8 +10,8 @@ unfolding refusal
 returns-clause-value c edit own =
     let entries : c.len.result ≡ length c.self.inside.entries.items = search rules in
     let limits : c.self.inside.limits ≡ c.args.self.now.limits = rw (← c.self.view_is) refl in
-    let log : c.self.inside.entries.items ≡ c.args.self.now.log = rw (← c.self.view_is) refl in
+    let log : c.self.inside.entries.items ≡ c.args.self.now.entries = rw (← c.self.view_is) refl in
     c.first_cause.ensures.value
     ∙ ap (λ n. first_of (c.args.own ∷ when (nat_le c.self.inside.limits.log n) LogFull ∷ [])) (entries ∙ ap length log)
-    ∙ ap (λ (most : Limits). first_of (c.args.own ∷ when (nat_le most.log (length c.args.self.now.log)) LogFull ∷ [])) limits
-    ∙ ap (λ first. first_of (first ∷ when (nat_le c.args.self.now.limits.log (length c.args.self.now.log)) LogFull ∷ [])) own
+    ∙ ap (λ (most : Limits). first_of (c.args.own ∷ when (nat_le most.log (length c.args.self.now.entries)) LogFull ∷ [])) limits
+    ∙ ap (λ first. first_of (first ∷ when (nat_le c.args.self.now.limits.log (length c.args.self.now.entries)) LogFull ∷ [])) own

@@ -1,6 +1,6 @@
 use Rattle.std.proofs.Common.{sym, subst}
-use Rattle.line_table.specs.Planar.{IsPlanar}
-use Rattle.line_table.proofs.Planar.{planar-legal}
+use Rattle.ground_model.specs.Planar.{IsPlanar}
+use Rattle.ground_model.proofs.Planar.{planar-legal}
 use Rattle.session.proofs.store.Store.remove_point.Goals as goal
 
 pub removal_refusal-requires : goal.removal_refusal-requires

@@ -3,7 +3,7 @@ use Rattle.std.specs.Prelude.{not}
 use Rattle.std.specs.FinMap as map
 use Rattle.ground_model.specs.declared.refusal.Refusal.TheVariants.{NotPoint}
 use Rattle.ground_model.specs.Refusal.{because}
-use Rattle.line_table.proofs.Planar.{places_on}
+use Rattle.ground_model.proofs.Planar.{places_on}
 use Rattle.session.proofs.Causes.{placed}
 use Rattle.session.proofs.surface.Surface.place_refusal.Goals as goal
 

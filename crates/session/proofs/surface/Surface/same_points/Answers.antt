@@ -7,7 +7,7 @@ use Rattle.session.proofs.Journals.{ok_where}
 use Rattle.session.proofs.surface.Surface.same_points.Goals as goal
 
 pub returns-clause-content : goal.returns-clause-content
-returns-clause-content c = rw (← c.self.view_is) (ok_where _ _ _ c.clone.result (λ points cloned t. ap (λ es. record { points = finmap.from_sorted es; lines = t.lines; next_line = t.next }) (entries_from_clone _ _ (λ x y h. h) (λ x y h. h) _ _ cloned)) c.clone.ensures.cases)
+returns-clause-content c = rw (← c.self.view_is) (ok_where _ _ _ c.clone.result (λ points cloned t. ap (λ es. record { points = finmap.from_sorted es; table = t }) (entries_from_clone _ _ (λ x y h. h) (λ x y h. h) _ _ cloned)) c.clone.ensures.cases)
 
 pub returns-clause-sorted : goal.returns-clause-sorted
 returns-clause-sorted c = ok_where _ _ _ c.clone.result (λ points cloned. subst (λ es. T (finmap.is_sorted place_cmp es)) (sym (entries_from_clone _ _ (λ x y h. h) (λ x y h. h) _ _ cloned)) c.self.invariant.sorted) c.clone.ensures.cases

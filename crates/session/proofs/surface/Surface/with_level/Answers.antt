@@ -2,13 +2,13 @@ use Rattle.std.proofs.Common.{◌≡◌, ap, refl, ◌∙◌}
 use Rattle.ground_model.specs.Content.{after}
 use Rattle.ground_model.specs.Slope.{relief}
 use Rattle.ground_model.specs.declared.edit.Edit.TheVariants.{AddPoint}
-use Rattle.session.specs.Surfaces.{content_by, table_of}
+use Rattle.session.specs.Surfaces.{content_by}
 use Rattle.session.proofs.Contents.{set-is-added, slopes-set}
 use Rattle.session.proofs.surface.Surface.with_level.Goals as goal
 
 pub invariant_of-result : goal.invariant_of-result
 invariant_of-result c =
-    let lines : c.in_ok-lines.lines ≡ table_of c.args.self.now = c.in_ok-lines.ensures ∙ rw (← c.self.view_is) refl in
+    let lines : c.in_ok-lines.lines ≡ c.args.self.now.table = c.in_ok-lines.ensures ∙ rw (← c.self.view_is) refl in
     let made : content_by c.in_ok-points.points.entries c.in_ok-lines.lines ≡ after c.args.self.now (AddPoint c.args.place c.args.level) = ap (content_by c.in_ok-points.points.entries) lines ∙ c.in_ok-points.ensures.content in
     let were : c.self.inside.slopes ≡ relief c.args.self.now = rw (← c.self.view_is) c.self.invariant.slopes_are in
     record {
@@ -18,5 +18,5 @@ invariant_of-result c =
 
 pub returns : goal.returns
 returns c =
-    let lines : c.in_ok-lines.lines ≡ table_of c.args.self.now = c.in_ok-lines.ensures ∙ rw (← c.self.view_is) refl in
+    let lines : c.in_ok-lines.lines ≡ c.args.self.now.table = c.in_ok-lines.ensures ∙ rw (← c.self.view_is) refl in
     ap (content_by c.in_ok-points.points.entries) lines ∙ c.in_ok-points.ensures.content ∙ set-is-added c.args.self.now c.args.place c.args.level

@@ -4,7 +4,7 @@ use Rattle.std.proofs.lemmas.Option.{slice_get_within}
 use Rattle.tri_pages.specs.declared.entry.Entry.TheVariants.{Free, Taken}
 use Rattle.tri_pages.specs.Slots.{taken, state_at}
 use Rattle.tri_pages.specs.FreeChain.{state, HasChain, end}
-use Rattle.tri_pages.proofs.Chains.{took, head_there, all_taken, grew, put_end, put_in, state_free, state_past, none_left}
+use Rattle.tri_pages.proofs.Chains.{took, head_there, all_taken, grew, put_end, put_in, state_free, state_past, none_left, state_put_end, state_put_in}
 use Rattle.tri_pages.proofs.pages.TriPages.take_free.Goals as goal
 
 pub push-requires-clause-fits : goal.push-requires-clause-fits
@@ -49,6 +49,12 @@ returns-in_ok-push-clause-ok g c =
     let long : c.len-count.result ≡ length c.args.self.now = c.len-count.ensures.len ∙ sym (length-map es state) ∙ ap length c.self.view_is in
     ap (map state) c.in_ok-push.ensures.ok ∙ map-append state es (Taken ∷ []) ∙ ap (λ l. l ++ Some None ∷ []) c.self.view_is ∙ sym (put_end c.args.self.now c.len-count.result (Some None) long)
 
+pub returns-in_ok-push-clause-taken : goal.returns-in_ok-push-clause-taken
+returns-in_ok-push-clause-taken g c =
+    let es = c.self.inside.entries in
+    let long : c.len-count.result ≡ length c.args.self.now = c.len-count.ensures.len ∙ sym (length-map es state) ∙ ap length c.self.view_is in
+    ap (λ l. state_at l c.len-count.result) (returns-in_ok-push-clause-ok g c) ∙ state_put_end c.args.self.now c.len-count.result (Some None) long
+
 pub returns-in_ok-push-clause-reuse : goal.returns-in_ok-push-clause-reuse
 returns-in_ok-push-clause-reuse g c = λ k there is_free.
     let es = c.self.inside.entries in
@@ -76,6 +82,13 @@ returns-in_ok-set-clause-ok g c =
     let far = slice_get_within es c.self.inside.head (Free e.0) e.1 in
     ap (map state) c.in_ok-set.ensures.ok ∙ map-set state es c.self.inside.head Taken ∙ ap (λ l. set l c.self.inside.head (Some None)) c.self.view_is
     ∙ sym (put_in c.args.self.now c.self.inside.head (Some None) (omega (arith, far, length-map es state, ap length c.self.view_is)))
+
+pub returns-in_ok-set-clause-taken : goal.returns-in_ok-set-clause-taken
+returns-in_ok-set-clause-taken g c =
+    let es = c.self.inside.entries in
+    let e = head_there es c.self.inside.head c.self.invariant c.if-slot.false in
+    let far = slice_get_within es c.self.inside.head (Free e.0) e.1 in
+    ap (λ l. state_at l c.self.inside.head) (returns-in_ok-set-clause-ok g c) ∙ state_put_in c.args.self.now c.self.inside.head (Some None) (omega (arith, far, length-map es state, ap length c.self.view_is))
 
 pub returns-in_ok-set-clause-reuse : goal.returns-in_ok-set-clause-reuse
 returns-in_ok-set-clause-reuse g c = λ k there is_free.

@@ -6,7 +6,7 @@ use Rattle.turn_lock.proofs.lock.TurnLock.join.Goals as goal
 
 pub join_seat-requires : goal.join_seat-requires
 join_seat-requires g c =
-    let a = c.into_seat-place.ensures.2 in
+    let a = c.into_seat-table_seat.ensures.2 in
     let b = c.into_seat.ensures.2 in (
       search rules,
       search rules,

@@ -7,7 +7,7 @@ use Rattle.turn_lock.proofs.lock.TurnLock.take.Goals as goal
 
 pub fetch_add-ticket-requires : goal.fetch_add-ticket-requires
 fetch_add-ticket-requires g c =
-    let same = c.into_seat-place.ensures.2 in
+    let same = c.into_seat-table_seat.ensures.2 in
     let idle = rest_idle _ _ _ _ c.seat.invariant same in
     let seat = rest_seat _ _ _ _ c.seat.invariant same in
     (search rules, search rules, draws g.S.Filed.journal _ _ _ _ _ _ idle seat)

@@ -1,0 +1,13 @@
+-- What a surface keeps whatever is edited.
+use Rattle.ground_num.specs.declared.head.Head.{Head}
+use Rattle.ground_model.specs.declared.limits.Limits.{Limits}
+use Rattle.turn_lock.specs.declared.journal.Journal.{Journal}
+
+-- its head and its limits
+pub record Setting : Type 0 where
+  pub head : Head
+  pub limits : Limits
+
+-- what every journal that begins with this one has too
+abbrev pub setting : Journal → Setting
+setting j = record { head = j.head; limits = j.limits }
