@@ -1,0 +1,55 @@
+-- sums
+pub mod Sums
+pub mod Signs
+pub mod Permuted
+pub mod OneOfMany
+-- half-open crossings
+pub mod HalfOpen
+pub mod Crossings
+pub mod WeightedSides
+pub mod Sides
+-- the tiling
+pub mod Edges
+pub mod Tiling
+pub mod FarSides
+pub mod FarTriangle
+pub mod Cover
+pub mod Nudged
+pub mod CrossedEdges
+pub mod Owners
+pub mod NeverCross
+pub mod OneOwner
+-- heights
+pub mod Depths
+pub mod OneEdgeBeyond
+pub mod HigherPlanes
+pub mod Heights
+pub mod FarNumbers
+pub mod PlanesBelow
+pub mod FourApart
+pub mod NoFourInPlane
+pub mod FarAbove
+-- locally Delaunay implies walled
+pub mod Walls
+pub mod WallTests
+pub mod Ranks
+pub mod Walk
+pub mod WalkSteps
+pub mod SheetTests
+pub mod LocalLaw
+pub mod FirstSheet
+-- there is only one
+pub mod CleanTriangle
+pub mod Cone
+pub mod SixDepths
+pub mod GoodTriangle
+pub mod OneTriangle
+pub mod GoodInSheet
+pub mod Counts
+pub mod SideTests
+pub mod GoodFacet
+pub mod Kept
+pub mod SheetFacets
+pub mod FacetLaws
+pub mod CommonEdge
+pub mod FacetsOnce

@@ -1,0 +1,58 @@
+//! Laws of sheets, the triangulations of a mesh that reaches to the far corners: a sheet tiles, and a locally Delaunay one
+//! is the constrained Delaunay triangulation, of which there is only one. It never asks how a sheet is kept or made.
+#![tactic(auto)]
+
+ghost use Rattle.cdt_law.specs.Laws.{EdgeLaw, FacetLaw, FirstLaw, LocalLaw, NetLaw, OnceLaw, UniqueLaw};
+ghost use Rattle.cdt_law.specs.Tiling.{Covers, NeverCross, Packs};
+
+/// The triangle of the far corners alone is a locally Delaunay sheet of no points: the laws below are about something.
+pub fn first_law()
+    ensures { FirstLaw }
+{}
+
+/// Each sum of places lies in a closed triangle of the sheet.
+pub fn cover_law()
+    ensures { Covers }
+{}
+
+/// No weighted point lies strictly inside two triangles of a sheet.
+pub fn pack_law()
+    ensures { Packs }
+{}
+
+/// No two edges of a sheet cross.
+pub fn cross_law()
+    ensures { NeverCross }
+{}
+
+/// A sheet has no facet twice.
+pub fn once_law()
+    ensures { OnceLaw }
+{}
+
+/// Locally Delaunay implies walled: in a locally Delaunay sheet each point inside the circle of a triangle is walled
+/// from the edge beyond which it lies. The corners of the triangle may be far.
+pub fn local_law()
+    ensures { LocalLaw }
+{}
+
+/// The triangles of three places of a locally Delaunay sheet of a content are, with their counts, the facets of the content.
+pub fn facet_law()
+    ensures { FacetLaw }
+{}
+
+/// The triangles of three places of a locally Delaunay sheet are, with their counts, the facets of its points and pieces.
+/// A net need not be that of a content: between the pieces of a line that is added, a mesh is a sheet of none.
+pub fn net_law()
+    ensures { NetLaw }
+{}
+
+/// Two locally Delaunay sheets over the same points and pieces have the same facets.
+pub fn unique_law()
+    ensures { UniqueLaw }
+{}
+
+/// Two facets of a content with a directed edge in common are one, also where its pieces cross.
+pub fn edge_law()
+    ensures { EdgeLaw }
+{}
