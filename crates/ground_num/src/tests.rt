@@ -1,6 +1,9 @@
 //! Each public call once on its happy path, and the limits.
 
-use crate::{Name, NameFault, PLACE_LIMIT, Thousandths, put_decimal, put_volume, shift};
+use crate::{
+    Name, NameFault, NumFault, PLACE_LIMIT, Thousandths, put_decimal, put_volume, read_decimal,
+    shift,
+};
 use std::alloc::Global;
 use std::test::Fail;
 
@@ -81,5 +84,80 @@ fn a_name_is_text_without_control_bytes(rt: HostRuntime) -> Result<(), Fail> {
     let read = (name.len(), name.is_empty(), name.get(1).copied());
     assert_eq!(rt; read, (4, false, Some(b'G')));
     assert!(rt; name.get(4).is_none());
+    Ok(())
+}
+
+// What is read, as text: a number of thousandths, or the fault.
+fn reading(text: &[u8]) -> Result<i64, NumFault> {
+    read_decimal(text).map(|number| number.0)
+}
+
+#[test]
+fn decimals_are_rounded_half_away_from_zero(rt: HostRuntime) {
+    for (text, thousandths) in [
+        ("1.04E+02", 104_000),
+        ("101.0005", 101_001),
+        ("-101.0005", -101_001),
+        ("-0.0004", 0),
+        ("102.000499999999", 102_000),
+        ("4512310.000000000000", 4_512_310_000),
+        ("+.5e-3", 1),
+        ("5.", 5_000),
+        ("1e-99999999999999999999", 0),
+        ("0e99999999999999999999", 0),
+        ("12345678901234567890123e-20", 123_457),
+        ("-999999999.9994", -999_999_999_999),
+    ] {
+        assert_eq!(rt; reading(text.as_bytes()), Ok(thousandths), "of {text}");
+    }
+}
+
+#[test]
+fn what_is_no_number_is_refused_at_its_first_byte(rt: HostRuntime) {
+    for (text, fault) in [
+        ("1.e", NumFault::NotNumber { at: 3 }),
+        ("", NumFault::NotNumber { at: 0 }),
+        ("-", NumFault::NotNumber { at: 1 }),
+        (".", NumFault::NotNumber { at: 1 }),
+        ("1.2.3", NumFault::NotNumber { at: 3 }),
+        ("--1", NumFault::NotNumber { at: 1 }),
+        ("1 ", NumFault::NotNumber { at: 1 }),
+        (".e5", NumFault::NotNumber { at: 1 }),
+        ("1e+", NumFault::NotNumber { at: 3 }),
+        ("999999999.9995", NumFault::TooBig),
+        ("-1e9", NumFault::TooBig),
+        ("1e99999999999999999999", NumFault::TooBig),
+    ] {
+        assert_eq!(rt; reading(text.as_bytes()), Err(fault), "of {text}");
+    }
+}
+
+// Whether the byte of the name is written so.
+fn is_written(name: &Name, offset: usize, text: &[u8]) -> bool {
+    let mut into = [0u8; 6];
+    match name.escaped(offset, &mut into) {
+        Some(len) => &into[..len] == text,
+        None => false,
+    }
+}
+
+#[test]
+fn a_name_is_escaped_byte_by_byte(rt: HostRuntime) -> Result<(), Fail> {
+    let name = Name::from_bytes(rt.alloc(), b"A&\"<>\t\n\r'")?;
+    for (offset, text) in [
+        (0, "A"),
+        (1, "&amp;"),
+        (2, "&quot;"),
+        (3, "&lt;"),
+        (4, "&gt;"),
+        (5, "&#9;"),
+        (6, "&#10;"),
+        (7, "&#13;"),
+        (8, "'"),
+    ] {
+        assert!(rt; is_written(&name, offset, text.as_bytes()), "{text}");
+    }
+    let mut into = [0u8; 6];
+    assert!(rt; name.escaped(9, &mut into).is_none());
     Ok(())
 }
