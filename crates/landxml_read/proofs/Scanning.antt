@@ -1,0 +1,150 @@
+-- Each state of the scan goes on to a document, so a byte that no state takes is the first fault.
+use Rattle.std.proofs.Common.{◌≡◌, ℕ, zero, suc, ◌+◌, Bool, true, false, ◌==◌, ◌&&◌, ◌||◌, not, cond, List, [], ◌∷◌, ◌++◌, codes, length, take, drop, ◌<◌, ◌≤◌, length-append, Option, None, Some, refl, sym, ◌∙◌, ap, subst, eqb-true, append_assoc, ◌⊎◌, inl, inr, arith}
+use Rattle.std.specs.List.{list_all}
+use Rattle.landxml_read.specs.Markup.{is_white, is_free, begins_name, is_in_name, is_in_value, is_name, is_gap, is_quote, is_up_to, Attribute as Attr, StartTag, EndTag, is_attribute, is_start, is_end, attribute_text, tag_text, start_text, empty_text, end_text, Content, Nothing, Byte, Comment as CommentOf, Instruction as InstructionOf, CData as CDataOf, Empty, Element, is_content, is_outside, content_text, Document, document_text, IsDocument, IsDocumentText}
+use Rattle.landxml_read.specs.declared.scan.Scan.{Scan}
+use Rattle.landxml_read.specs.declared.scan.Level.{Level}
+use Rattle.landxml_read.specs.declared.scan.Level.TheVariants.{Before, Inside, After}
+use Rattle.landxml_read.specs.declared.scan.Part.{Part}
+use Rattle.landxml_read.specs.declared.scan.Part.TheVariants.{Start, MarkFirst, MarkSecond, Text, Open, Bang, BangDash, Bracket, BracketC, BracketCd, BracketCda, BracketCdat, BracketCdata, In, Tag, EndOpen, EndName, EndWhite}
+use Rattle.landxml_read.specs.declared.skipped.Skipped.{Skipped}
+use Rattle.landxml_read.specs.declared.skipped.Skipped.TheVariants.{Comment, CommentDash, CommentDashes, Instruction, InstructionMark, CData, CDataBracket, CDataBrackets}
+use Rattle.landxml_read.specs.declared.tag.TagPart.{TagPart}
+use Rattle.landxml_read.specs.declared.tag.TagPart.TheVariants.{Name, White, Attribute, BeforeEquals, AfterEquals, DoubleQuoted, SingleQuoted, AfterValue, Slash}
+use Rattle.landxml_read.specs.Scan.{opened, passed, closed, is_inside, is_unclosed, at, skipping, skipped_next, value_next, tag_next, next, is_final, start, run}
+use Rattle.landxml_read.proofs.Tests.{both, clash, flip_true, differs, white_free, white_in_no_name, white_begins_no_name, quote_cases}
+use Rattle.landxml_read.proofs.Closing.{twice}
+use Rattle.landxml_read.proofs.Accepting.{Ends, accepts}
+use Rattle.landxml_read.proofs.Accepted.{from, accepted}
+use Rattle.ground_num.specs.FirstFault.{Begins, IsFirstFault}
+use Rattle.std.proofs.lemmas.List.{take-append-le, take-append-drop}
+use Rattle.std.proofs.Math.Seq.{take-append-add}
+
+-- what closes the elements that are open
+abbrev closing : Level → List ℕ
+closing Before = codes "<a/>"
+closing (Inside k) = ends k where
+  ends : ℕ → List ℕ
+  ends zero = codes "</a>"
+  ends (suc k) = codes "</a>" ++ ends k
+closing After = []
+
+closed_well : (L : Level) → Ends (from Text L (closing L))
+closed_well Before = refl
+closed_well After = refl
+closed_well (Inside zero) = refl
+closed_well (Inside (suc k)) = closed_well (Inside k)
+
+abbrev Alive : Part → Level → Type 0
+Alive part L = (more : List ℕ) × Ends (from part L more)
+
+skipped_alive : (part : Skipped) (L : Level) → Alive (In part) L
+skipped_alive Comment L = (codes "-->" ++ closing L, closed_well L)
+skipped_alive CommentDash L = (codes "->" ++ closing L, closed_well L)
+skipped_alive CommentDashes L = (codes ">" ++ closing L, closed_well L)
+skipped_alive Instruction L = (codes "?>" ++ closing L, closed_well L)
+skipped_alive InstructionMark L = (codes ">" ++ closing L, closed_well L)
+skipped_alive CData L = (codes "]]>" ++ closing L, closed_well L)
+skipped_alive CDataBracket L = (codes "]>" ++ closing L, closed_well L)
+skipped_alive CDataBrackets L = (codes ">" ++ closing L, closed_well L)
+
+tag_alive : (part : TagPart) (L : Level) → Alive (Tag part) L
+tag_alive Name L = (codes "/>" ++ closing (passed L), closed_well (passed L))
+tag_alive White L = (codes "/>" ++ closing (passed L), closed_well (passed L))
+tag_alive Attribute L = (codes "=''/>" ++ closing (passed L), closed_well (passed L))
+tag_alive BeforeEquals L = (codes "=''/>" ++ closing (passed L), closed_well (passed L))
+tag_alive AfterEquals L = (codes "''/>" ++ closing (passed L), closed_well (passed L))
+tag_alive DoubleQuoted L = (34 ∷ codes "/>" ++ closing (passed L), closed_well (passed L))
+tag_alive SingleQuoted L = (codes "'/>" ++ closing (passed L), closed_well (passed L))
+tag_alive AfterValue L = (codes "/>" ++ closing (passed L), closed_well (passed L))
+tag_alive Slash L = (codes ">" ++ closing (passed L), closed_well (passed L))
+
+alive : (part : Part) (L : Level) → Alive part L
+alive Start L = (codes "<??>" ++ closing L, closed_well L)
+alive MarkFirst L = (0xBB ∷ 0xBF ∷ closing L, closed_well L)
+alive MarkSecond L = (0xBF ∷ closing L, closed_well L)
+alive Text L = (closing L, closed_well L)
+alive Open L = (codes "??>" ++ closing L, closed_well L)
+alive Bang L = (codes "---->" ++ closing L, closed_well L)
+alive BangDash L = (codes "--->" ++ closing L, closed_well L)
+alive Bracket L = (codes "CDATA[]]>" ++ closing L, closed_well L)
+alive BracketC L = (codes "DATA[]]>" ++ closing L, closed_well L)
+alive BracketCd L = (codes "ATA[]]>" ++ closing L, closed_well L)
+alive BracketCda L = (codes "TA[]]>" ++ closing L, closed_well L)
+alive BracketCdat L = (codes "A[]]>" ++ closing L, closed_well L)
+alive BracketCdata L = (codes "[]]>" ++ closing L, closed_well L)
+alive (In part) L = skipped_alive part L
+alive (Tag part) L = tag_alive part L
+alive EndOpen L = (codes "a>" ++ closing (closed L), closed_well (closed L))
+alive EndName L = (codes ">" ++ closing (closed L), closed_well (closed L))
+alive EndWhite L = (codes ">" ++ closing (closed L), closed_well (closed L))
+
+-- runs
+
+run_none : (bs : List ℕ) → run None bs ≡ None
+run_none [] = refl
+run_none (b ∷ bs) = refl
+
+pub run_more : (o : Option Scan) (xs ys : List ℕ) → run o (xs ++ ys) ≡ run (run o xs) ys
+run_more o [] ys = refl
+run_more None (x ∷ xs) ys = sym (run_none ys)
+run_more (Some s) (x ∷ xs) ys = run_more (next s x) xs ys
+
+-- the bytes that the scan has taken begin a document
+pub begun : (xs : List ℕ) (s : Scan) → run (Some start) xs ≡ Some s → Begins IsDocumentText xs
+begun xs s e =
+    let a = alive s.part s.level in
+    let P : Option Scan → Type 0 = Ends in
+    (a.0, accepts (xs ++ a.0) start (subst P (sym (run_more (Some start) xs a.0 ∙ ap (λ o. run o a.0) e)) a.1) refl)
+
+-- with a byte that the scan doesn't take, no document begins so
+pub not_begun : (xs : List ℕ) (s : Scan) (b : ℕ) (more : List ℕ) → run (Some start) xs ≡ Some s → next s b ≡ None → IsDocumentText (xs ++ b ∷ more) → ⊥
+not_begun xs s b more e none d =
+    let P : Option Scan → Type 0 = Ends in
+    subst P (ap (run (Some start)) (sym d.2) ∙ run_more (Some start) xs (b ∷ more) ∙ ap (λ o. run o (b ∷ more)) e ∙ ap (λ o. run o more) none ∙ run_none more) (accepted d.0 d.1)
+
+-- where the scan may end, the bytes are a document
+pub whole : (xs : List ℕ) (s : Scan) → run (Some start) xs ≡ Some s → is_final s ≡ true → IsDocumentText xs
+whole xs s e final = let P : Option Scan → Type 0 = Ends in accepts xs start (subst P (sym e) final) refl
+
+-- and elsewhere they are none
+pub not_whole : (xs : List ℕ) (s : Scan) → run (Some start) xs ≡ Some s → is_final s ≡ false → ¬ (IsDocumentText xs)
+not_whole xs s e open_end d =
+    let P : Option Scan → Type 0 = Ends in
+    let final : is_final s ≡ true = subst P (ap (run (Some start)) (sym d.2) ∙ e) (accepted d.0 d.1) in
+    clash _ final open_end
+
+-- a front of a front that begins a document begins one
+begins_less : (xs ys : List ℕ) → Begins IsDocumentText (xs ++ ys) → Begins IsDocumentText xs
+begins_less xs ys b = let P : List ℕ → Type 0 = IsDocumentText in (ys ++ b.0, subst P (append_assoc xs ys b.0) b.1)
+
+-- the first fault after what the scan has taken
+pub fault_after : (xs : List ℕ) (s : Scan) (b : ℕ) (more : List ℕ) → run (Some start) xs ≡ Some s → next s b ≡ None → IsFirstFault IsDocumentText (xs ++ b ∷ more) (length xs)
+fault_after xs s b more e none = record {
+  within = omega (arith, length-append xs (b ∷ more));
+  allowed = λ j less. front_begins j less;
+  not_allowed = λ _ begins. not_begun xs s b begins.0 e none (at_fault begins);
+}
+  where
+    P : List ℕ → Type 0
+    P = IsDocumentText
+
+    front_begins : (j : ℕ) → j < length xs → Begins IsDocumentText (take (j + 1) (xs ++ b ∷ more))
+    front_begins j less =
+        let Q : List ℕ → Type 0 = Begins IsDocumentText in
+        subst Q (sym (take-append-le (j + 1) xs (b ∷ more) (omega arith)))
+        (begins_less (take (j + 1) xs) (drop (j + 1) xs) (subst Q (sym (take-append-drop (j + 1) xs)) (begun xs s e)))
+
+    at_fault : (begins : Begins IsDocumentText (take (length xs + 1) (xs ++ b ∷ more))) → IsDocumentText (xs ++ b ∷ begins.0)
+    at_fault begins =
+        let Q : List ℕ → Type 0 = IsDocumentText in
+        let front : take (length xs + 1) (xs ++ b ∷ more) ≡ xs ++ b ∷ [] = take-append-add xs (b ∷ more) 1 in
+        subst Q (ap (λ w. w ++ begins.0) front ∙ append_assoc xs (b ∷ []) begins.0) begins.1
+
+-- and where the scan has taken all, there is none
+pub no_fault : (xs : List ℕ) (s : Scan) → run (Some start) xs ≡ Some s → IsFirstFault IsDocumentText xs (length xs)
+no_fault xs s e = record {
+  within = omega arith;
+  allowed = λ j less. let Q : List ℕ → Type 0 = Begins IsDocumentText in begins_less (take (j + 1) xs) (drop (j + 1) xs) (subst Q (sym (take-append-drop (j + 1) xs)) (begun xs s e));
+  not_allowed = λ less. absurd (omega arith);
+}
