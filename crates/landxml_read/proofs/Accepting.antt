@@ -1,7 +1,6 @@
 -- What the scan accepts is a document.
-use Rattle.std.proofs.Common.{◌≡◌, ℕ, zero, suc, Bool, true, false, ◌==◌, ◌&&◌, ◌||◌, not, cond, List, [], ◌∷◌, ◌++◌, codes, bytes_eq, take, Option, None, Some, refl, sym, ◌∙◌, ap, subst, eqb-true}
-use Rattle.std.specs.List.{list_all}
-use Rattle.landxml_read.specs.Markup.{is_white, is_free, begins_name, is_in_name, is_in_value, Nothing, Document, document_text, IsDocument, IsDocumentText}
+use Rattle.std.proofs.Common.{◌≡◌, ℕ, Bool, true, false, ◌==◌, ◌&&◌, ◌||◌, cond, List, [], ◌∷◌, ◌++◌, codes, Option, None, Some, refl, sym, ◌∙◌, ap, subst, eqb-true}
+use Rattle.landxml_read.specs.Markup.{is_white, is_free, begins_name, is_in_name, is_in_value, Nothing, IsDocumentText}
 use Rattle.landxml_read.specs.declared.scan.Scan.{Scan}
 use Rattle.landxml_read.specs.declared.scan.Level.{Level}
 use Rattle.landxml_read.specs.declared.scan.Level.TheVariants.{Before, Inside, After}
@@ -12,9 +11,9 @@ use Rattle.landxml_read.specs.declared.skipped.Skipped.TheVariants.{Comment, Com
 use Rattle.landxml_read.specs.declared.tag.TagPart.{TagPart}
 use Rattle.landxml_read.specs.declared.tag.TagPart.TheVariants.{Name, White, Attribute, BeforeEquals, AfterEquals, DoubleQuoted, SingleQuoted, AfterValue, Slash}
 use Rattle.landxml_read.specs.Scan.{opened, passed, closed, is_inside, is_unclosed, at, only, text_next, open_next, bang_next, skipping, skipped_next, tag_end, white_or_end, before_quote, value_next, tag_next, end_next, part_next, next, is_final, run}
-use Rattle.landxml_read.proofs.Tests.{both, and_is, clash, flip_true}
+use Rattle.landxml_read.proofs.Tests.{both, and_is}
 use Rattle.landxml_read.proofs.Closing.{Until, until_more, until_end, twice, no_first, no_second, no_third, no_mark, no_close}
-use Rattle.landxml_read.proofs.Following.{Deep, Rest, IsOutside, white_on, byte_on, comment_on, instruction_on, cdata_on, Ending, by_open, by_empty, Attributes, Named, Spaced, Quoted, Valued, element_on, end_on, white_before, attribute_before, end_before, end_here}
+use Rattle.landxml_read.proofs.Following.{Rest, IsOutside, white_on, byte_on, comment_on, instruction_on, cdata_on, Ending, by_open, by_empty, Attributes, Named, Spaced, Quoted, Valued, element_on, end_on, white_before, attribute_before, end_here}
 
 -- a > and what may follow an empty element
 pub record Slashed (L : Level) (ys : List ℕ) : Type 0 where

@@ -2,5 +2,8 @@ pub mod Tests
 pub mod Closing
 pub mod Following
 pub mod Accepting
+pub mod Running
+pub mod Skipping
+pub mod Tags
 pub mod Accepted
 pub mod Scanning

@@ -1,7 +1,6 @@
 -- Each state of the scan goes on to a document, so a byte that no state takes is the first fault.
-use Rattle.std.proofs.Common.{◌≡◌, ℕ, zero, suc, ◌+◌, Bool, true, false, ◌==◌, ◌&&◌, ◌||◌, not, cond, List, [], ◌∷◌, ◌++◌, codes, length, take, drop, ◌<◌, ◌≤◌, length-append, Option, None, Some, refl, sym, ◌∙◌, ap, subst, eqb-true, append_assoc, ◌⊎◌, inl, inr, arith}
-use Rattle.std.specs.List.{list_all}
-use Rattle.landxml_read.specs.Markup.{is_white, is_free, begins_name, is_in_name, is_in_value, is_name, is_gap, is_quote, is_up_to, Attribute as Attr, StartTag, EndTag, is_attribute, is_start, is_end, attribute_text, tag_text, start_text, empty_text, end_text, Content, Nothing, Byte, Comment as CommentOf, Instruction as InstructionOf, CData as CDataOf, Empty, Element, is_content, is_outside, content_text, Document, document_text, IsDocument, IsDocumentText}
+use Rattle.std.proofs.Common.{◌≡◌, ℕ, zero, suc, ◌+◌, true, false, List, [], ◌∷◌, ◌++◌, codes, length, take, drop, ◌<◌, length-append, Option, None, Some, refl, sym, ◌∙◌, ap, subst, append_assoc, arith}
+use Rattle.landxml_read.specs.Markup.{IsDocumentText}
 use Rattle.landxml_read.specs.declared.scan.Scan.{Scan}
 use Rattle.landxml_read.specs.declared.scan.Level.{Level}
 use Rattle.landxml_read.specs.declared.scan.Level.TheVariants.{Before, Inside, After}
@@ -11,11 +10,11 @@ use Rattle.landxml_read.specs.declared.skipped.Skipped.{Skipped}
 use Rattle.landxml_read.specs.declared.skipped.Skipped.TheVariants.{Comment, CommentDash, CommentDashes, Instruction, InstructionMark, CData, CDataBracket, CDataBrackets}
 use Rattle.landxml_read.specs.declared.tag.TagPart.{TagPart}
 use Rattle.landxml_read.specs.declared.tag.TagPart.TheVariants.{Name, White, Attribute, BeforeEquals, AfterEquals, DoubleQuoted, SingleQuoted, AfterValue, Slash}
-use Rattle.landxml_read.specs.Scan.{opened, passed, closed, is_inside, is_unclosed, at, skipping, skipped_next, value_next, tag_next, next, is_final, start, run}
-use Rattle.landxml_read.proofs.Tests.{both, clash, flip_true, differs, white_free, white_in_no_name, white_begins_no_name, quote_cases}
-use Rattle.landxml_read.proofs.Closing.{twice}
+use Rattle.landxml_read.specs.Scan.{passed, closed, next, is_final, start, run}
+use Rattle.landxml_read.proofs.Tests.{clash}
 use Rattle.landxml_read.proofs.Accepting.{Ends, accepts}
-use Rattle.landxml_read.proofs.Accepted.{from, accepted}
+use Rattle.landxml_read.proofs.Running.{from}
+use Rattle.landxml_read.proofs.Accepted.{accepted}
 use Rattle.ground_num.specs.FirstFault.{Begins, IsFirstFault}
 use Rattle.std.proofs.lemmas.List.{take-append-le, take-append-drop}
 use Rattle.std.proofs.Math.Seq.{take-append-add}

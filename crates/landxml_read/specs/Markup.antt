@@ -1,5 +1,5 @@
 -- A document as a tree, and the bytes that spell it. White, quotes and names are kept as they stand, so a tree has one text.
-use Rattle.std.specs.Prelude.{◌≡◌, ℕ, ◌+◌, Bool, true, false, ◌==◌, ◌&&◌, ◌||◌, not, nat_lt, List, [], ◌∷◌, ◌++◌, length, take, codes, bytes_eq, flat_map, if◌then◌else◌, IsTrue}
+use Rattle.std.specs.Prelude.{◌≡◌, ℕ, Bool, true, false, ◌==◌, ◌&&◌, ◌||◌, not, nat_lt, List, [], ◌∷◌, ◌++◌, length, take, codes, bytes_eq, flat_map, if◌then◌else◌, IsTrue}
 use Rattle.std.specs.List.{list_all}
 
 -- bytes

@@ -3,6 +3,9 @@
 #![tactic(auto)]
 
 mod byte;
+mod laws;
 mod scan;
 mod skipped;
 mod tag;
+
+pub use laws::scan_law;
