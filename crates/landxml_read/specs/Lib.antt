@@ -1,2 +1,9 @@
 pub mod Markup
+pub mod Elements
+pub mod Values
+pub mod Words
+pub mod Numbers
+pub mod Faults
+pub mod Lists
+pub mod Answer
 pub mod Scan

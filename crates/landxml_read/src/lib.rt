@@ -3,9 +3,18 @@
 #![tactic(auto)]
 
 mod byte;
+mod fault;
 mod laws;
+mod list;
+mod raw;
 mod scan;
 mod skipped;
 mod tag;
 
+pub use fault::{DocCause, DocFault};
 pub use laws::scan_law;
+pub use list::RawList;
+pub use raw::{
+    Pair2, Pairs, RawDoc, RawFace, RawFaces, RawId, RawIds, RawKind, RawLine, RawLines, RawSurface,
+    RawSurfaces, RawVertex, RawVertices, Triple, Triples,
+};

@@ -1,0 +1,58 @@
+//! Lists that a contract compares with a list of the definitions.
+
+ghost use Rattle.std.specs.Prelude.{◌≡◌, ◌↔◌, IsTrue, length, slice_get};
+ghost use Rattle.std.specs.Option.{option_copied};
+
+use std::marker::Model;
+
+/// A list of values in document order, in one allocation: contracts see the list alone.
+#[derive(Drop)]
+pub struct RawList<T> {
+    items: Vec<T>,
+}
+
+impl<T> Model for RawList<T> {
+    ghost use Rattle.std.specs.Prelude.{List};
+
+    ghost Value = { List T };
+
+    ghost view = { λ a. a.items.items };
+}
+
+impl<T> RawList<T> {
+    /// The vector's values. Takes no memory.
+    pub fn from_vec(items: Vec<T>) -> RawList<T>
+        ensures items { result ≡ items.items }
+    {
+        RawList { items }
+    }
+
+    /// The values as a vector, which is the one that the list was made of. Takes no memory.
+    pub fn into_vec(self) -> Vec<T>
+        ensures items { result.items ≡ self }
+    {
+        let RawList { items } = self;
+        items
+    }
+
+    /// How many values there are.
+    pub fn len(&self) -> usize
+        ensures count { result ≡ length self.now }
+    {
+        self.items.len()
+    }
+
+    /// Whether there is no value.
+    pub fn is_empty(&self) -> bool
+        ensures empty { IsTrue result ↔ (length self.now ≡ 0) }
+    {
+        self.items.is_empty()
+    }
+
+    /// The value at this index, counted from 0. None from the length on.
+    pub fn get(&self, index: usize) -> Option<&T>
+        ensures value { option_copied result ≡ slice_get self.now index }
+    {
+        self.items.get(index)
+    }
+}
