@@ -10,27 +10,28 @@ use Rattle.ground_model.specs.Place.{Coords, IsPlace}
 use Rattle.ground_model.specs.Side.{side}
 use Rattle.ground_model.specs.Line.{is_point}
 use Rattle.ground_model.specs.Corner.{corner_at, corner_side, is_same_corner}
-use Rattle.cdt_law.specs.Net.{Net, Triangle, has, is_triangle, covers, is_beyond}
-use Rattle.cdt_law.specs.Sheet.{IsSheet, IsLocallyDelaunay, is_over, are_over}
-use Rattle.cdt_law.specs.Weighted.{weighted_side, gathered}
-use Rattle.cdt_law.specs.Tiling.{HasWithin}
-use Rattle.cdt_law.proofs.Edges.{corner-self}
-use Rattle.cdt_law.proofs.Tiling.{each-passes, left-of}
-use Rattle.cdt_law.proofs.Heights.{lift, deep}
-use Rattle.cdt_law.proofs.HigherPlanes.{depth-turned}
-use Rattle.cdt_law.proofs.Cover.{covered, gathered-some}
-use Rattle.cdt_law.proofs.Nudged.{Inside, Shared, nudged, center, center-pq, center-qr, center-rp}
-use Rattle.cdt_law.proofs.FarTriangle.{IsValid, AreValid, Place, Far0, Far1, Far2, sheet-valid, listed-place}
-use Rattle.cdt_law.proofs.Owners.{IsTurn, Still, Once, Twice, owner, turn-side}
-use Rattle.cdt_law.proofs.NeverCross.{uncrossed}
+use Rattle.predicates.specs.Net.{Net, Triangle, has, is_triangle, covers, is_beyond}
+use Rattle.predicates.specs.Sheet.{IsSheet, IsLocallyDelaunay, is_over, are_over}
+use Rattle.predicates.specs.Weighted.{weighted_side, gathered}
+use Rattle.predicates.specs.Tiling.{HasWithin}
+use Rattle.predicates.proofs.Edges.{corner-self}
+use Rattle.predicates.proofs.Tiling.{each-passes, left-of}
+use Rattle.predicates.proofs.Heights.{lift, deep}
+use Rattle.predicates.proofs.HigherPlanes.{depth-turned}
+use Rattle.predicates.proofs.Cover.{covered, gathered-some}
+use Rattle.predicates.proofs.Nudged.{Inside, Shared, nudged, center, center-pq, center-qr, center-rp}
+use Rattle.predicates.proofs.Valid.{IsValid, Place, Far0, Far1, Far2}
+use Rattle.predicates.proofs.FarTriangle.{AreValid, sheet-valid, listed-place}
+use Rattle.predicates.proofs.Owners.{IsTurn, Still, Once, Twice, owner, turn-side}
+use Rattle.predicates.proofs.NeverCross.{uncrossed}
 use Rattle.cdt_law.proofs.Walk.{turn-next, turn-valid}
 use Rattle.cdt_law.proofs.WalkSteps.{walled, at-corner}
 use Rattle.cdt_law.proofs.LocalLaw.{around}
-use Rattle.cdt_law.proofs.SheetTests.{any-at}
-use Rattle.cdt_law.proofs.FarAbove.{far_above, IsFar0, IsFar1, IsFar2}
+use Rattle.predicates.proofs.HasTriangles.{any-at}
+use Rattle.predicates.proofs.FarAbove.{far_above, IsFar0, IsFar1, IsFar2}
 use Rattle.cdt_law.proofs.GoodTriangle.{Site, IsSite, IsGood, IsFree, IsGuarded}
 use Rattle.cdt_law.proofs.OneTriangle.{PointAt, one_triangle}
-use Rattle.cdt_law.proofs.Signs.{never-both, positive-along}
+use Rattle.predicates.proofs.Signs.{never-both, positive-along}
 
 -- the points and pieces of a net
 abbrev pub site_of : Net → Site

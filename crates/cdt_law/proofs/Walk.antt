@@ -9,16 +9,17 @@ use Rattle.ground_model.specs.Place.{Coords, IsPlace}
 use Rattle.ground_model.specs.Side.{side}
 use Rattle.ground_model.specs.Corner.{corner_at, corner_side}
 use Rattle.ground_model.proofs.Circle.{side-turned}
-use Rattle.cdt_law.specs.Net.{Net, Triangle, edges_of, is_same_edge, count_of, covers, has_corner}
-use Rattle.cdt_law.specs.Sheet.{IsSheet}
-use Rattle.cdt_law.proofs.Edges.{edge-tells}
-use Rattle.cdt_law.proofs.FarTriangle.{IsValid, AreValid}
-use Rattle.cdt_law.proofs.Owners.{IsTurn, Still, Once, Twice, Owner}
+use Rattle.predicates.specs.Net.{Net, Triangle, edges_of, is_same_edge, count_of, covers, has_corner}
+use Rattle.predicates.specs.Sheet.{IsSheet}
+use Rattle.predicates.proofs.Edges.{edge-tells}
+use Rattle.predicates.proofs.Valid.{IsValid}
+use Rattle.predicates.proofs.FarTriangle.{AreValid}
+use Rattle.predicates.proofs.Owners.{IsTurn, Still, Once, Twice, Owner}
 use Rattle.cdt_law.proofs.Walls.{Walls}
-use Rattle.cdt_law.proofs.Heights.{lift, deep}
-use Rattle.cdt_law.proofs.HigherPlanes.{depth-turned}
-use Rattle.cdt_law.proofs.Signs.{level-down, level-up}
-use Rattle.cdt_law.proofs.Sides.{flat_bc, flat_ca, positive-back}
+use Rattle.predicates.proofs.Heights.{lift, deep}
+use Rattle.predicates.proofs.HigherPlanes.{depth-turned}
+use Rattle.predicates.proofs.Signs.{level-down, level-up}
+use Rattle.predicates.proofs.FlatSides.{flat_bc, flat_ca, positive-back}
 
 -- ---- a sheet and a place of it
 pub record Around : Type 0 where

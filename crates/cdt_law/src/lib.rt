@@ -3,26 +3,10 @@
 #![tactic(auto)]
 
 ghost use Rattle.cdt_law.specs.Laws.{EdgeLaw, FacetLaw, FirstLaw, LocalLaw, NetLaw, OnceLaw, UniqueLaw};
-ghost use Rattle.cdt_law.specs.Tiling.{Covers, NeverCross, Packs};
 
 /// The triangle of the far corners alone is a locally Delaunay sheet of no points: the laws below are about something.
 pub fn first_law()
     ensures { FirstLaw }
-{}
-
-/// Each sum of places lies in a closed triangle of the sheet.
-pub fn cover_law()
-    ensures { Covers }
-{}
-
-/// No weighted point lies strictly inside two triangles of a sheet.
-pub fn pack_law()
-    ensures { Packs }
-{}
-
-/// No two edges of a sheet cross.
-pub fn cross_law()
-    ensures { NeverCross }
 {}
 
 /// A sheet has no facet twice.
