@@ -10,7 +10,7 @@ use Rattle.ground_model.proofs.Ring.{Expr, var, num, ◌⊕◌, ◌⊖◌, ◌�
 use Rattle.ground_model.proofs.ZOrder.{mul-positive}
 use Rattle.ground_model.proofs.Circle.{sideE, side-turned}
 use Rattle.predicates.specs.Depth.{depth}
-use Rattle.predicates.proofs.Signs.{mul-mixed, never-level, positive-along, weaken}
+use Rattle.predicates.proofs.Signs.{mul-mixed, never-level, never-flat, positive-along, weaken}
 use Rattle.predicates.proofs.Valid.{IsValid}
 use Rattle.predicates.proofs.OneEdgeBeyond.{excess, depth-at_a, depth-at_b}
 use Rattle.predicates.proofs.HigherPlanes.{depth-turned}
@@ -67,38 +67,46 @@ depth-at_d a b c d k l =
 times-zero : (f s : ℤ) → s ≡ pos 0 → f *ℤ s ≡ pos 0
 times-zero f s e = ap (λ k. f *ℤ k) e ∙ ring (f ∷ []) (var 0 ⊗ num (pos 0)) (num (pos 0)) refl
 
--- the plane through b or c: below the others
-under : (z p q r : ℤ) → z ≡ p +ℤ q -ℤ r → p ≡ pos 0 → q ≤ℤ pos 0 → pos 0 <ℤ r → z ≡ pos 0 → ⊥
-under z p q r e ep hq hr ez = omega (arith, ints, e, ep, hq, hr, ez)
+-- how far x is above the plane through b
+abbrev above : Corner → Corner → ℤ
+above b x = excess (lift b) (lean_e b) (lean_n b) (lift x)
 
-over-three : (z p q r : ℤ) → z ≡ p +ℤ q +ℤ r → p ≡ pos 0 → pos 0 <ℤ q → pos 0 <ℤ r → z ≡ pos 0 → ⊥
-over-three z p q r e ep hq hr ez = omega (arith, ints, e, ep, hq, hr, ez)
+-- d lies between b and c: then it is below the plane
+pub deep_between : (a b c d : Corner) → FourApart a b c d → corner_side b c d ≡ pos 0 → pos 0 <ℤ corner_side a b d → pos 0 <ℤ corner_side c a d → pos 0 <ℤ deep a b c d
+deep_between a b c d f flat left_ab left_ca =
+    sum (deep a b c d) (above d a *ℤ corner_side b c d) (above d b *ℤ corner_side c a d) (above d c *ℤ corner_side a b d)
+    (depth-at_d (lift a) (lift b) (lift c) (lift d) (lean_e d) (lean_n d))
+    (times-zero (above d a) (corner_side b c d) flat)
+    (mul-positive (above d b) (corner_side c a d) (leans d b f.d_in f.b_in (λ e. f.not_b (sym e))) left_ca)
+    (mul-positive (above d c) (corner_side a b d) (leans d c f.d_in f.c_in (λ e. f.not_c (sym e))) left_ab)
+  where
+    sum : (z p q r : ℤ) → z ≡ p +ℤ q +ℤ r → p ≡ pos 0 → pos 0 <ℤ q → pos 0 <ℤ r → pos 0 <ℤ z
+    sum z p q r e ep hq hr = omega (arith, ints, e, ep, hq, hr)
+
+under : (z p q r : ℤ) → z ≡ p +ℤ q -ℤ r → p ≡ pos 0 → q ≤ℤ pos 0 → pos 0 <ℤ r → z <ℤ pos 0
+under z p q r e ep hq hr = omega (arith, ints, e, ep, hq, hr)
+
+-- d lies past b, or past c: then it is above the plane
+pub shallow_past_b : (a b c d : Corner) → FourApart a b c d → corner_side b c d ≡ pos 0 → corner_side a b d ≤ℤ pos 0 → deep a b c d <ℤ pos 0
+shallow_past_b a b c d f flat right_ab =
+    under (deep a b c d) (above b a *ℤ corner_side b c d) (above b c *ℤ corner_side a b d) (above b d *ℤ corner_side a b c)
+    (depth-at_b (lift a) (lift b) (lift c) (lift d) (lean_e b) (lean_n b))
+    (times-zero (above b a) (corner_side b c d) flat)
+    (mul-mixed (above b c) (corner_side a b d) (weaken (above b c) (leans b c f.b_in f.c_in (λ e. not_bc a b c d f (sym e)))) right_ab)
+    (mul-positive (above b d) (corner_side a b c) (leans b d f.b_in f.d_in f.not_b) f.turned)
+
+pub shallow_past_c : (a b c d : Corner) → FourApart a b c d → corner_side b c d ≡ pos 0 → corner_side c a d ≤ℤ pos 0 → deep a b c d <ℤ pos 0
+shallow_past_c a b c d f flat right_ca =
+    under (deep a b c d) (above c a *ℤ corner_side b c d) (above c b *ℤ corner_side c a d) (above c d *ℤ corner_side c a b)
+    (depth-turned (lift a) (lift b) (lift c) (lift d) ∙ depth-turned (lift b) (lift c) (lift a) (lift d) ∙ depth-at_a (lift c) (lift a) (lift b) (lift d) (lean_e c) (lean_n c))
+    (times-zero (above c a) (corner_side b c d) flat)
+    (mul-mixed (above c b) (corner_side c a d) (weaken (above c b) (leans c b f.c_in f.b_in (not_bc a b c d f))) right_ca)
+    (mul-positive (above c d) (corner_side c a b) (leans c d f.c_in f.d_in f.not_c) (positive-along (corner_side c a b) (corner_side a b c) (side-turned (corner_at c) (corner_at a) (corner_at b)) f.turned))
 
 pub not_collinear : (a b c d : Corner) → FourApart a b c d → deep a b c d ≡ pos 0 → corner_side b c d ≡ pos 0 → ⊥
 not_collinear a b c d f level flat =
     by_lt_z (pos 0) (corner_side a b d)
     (λ left_ab. by_lt_z (pos 0) (corner_side c a d)
-    (λ left_ca. over-three (deep a b c d) (at_d a *ℤ corner_side b c d) (at_d b *ℤ corner_side c a d) (at_d c *ℤ corner_side a b d)
-    (depth-at_d (lift a) (lift b) (lift c) (lift d) (lean_e d) (lean_n d))
-    (times-zero (at_d a) (corner_side b c d) flat)
-    (mul-positive (at_d b) (corner_side c a d) (leans d b f.d_in f.b_in (λ e. f.not_b (sym e))) left_ca)
-    (mul-positive (at_d c) (corner_side a b d) (leans d c f.d_in f.c_in (λ e. f.not_c (sym e))) left_ab) level)
-    (λ right_ca. under (deep a b c d) (at_c a *ℤ corner_side b c d) (at_c b *ℤ corner_side c a d) (at_c d *ℤ corner_side c a b)
-    (depth-turned (lift a) (lift b) (lift c) (lift d) ∙ depth-turned (lift b) (lift c) (lift a) (lift d) ∙ depth-at_a (lift c) (lift a) (lift b) (lift d) (lean_e c) (lean_n c))
-    (times-zero (at_c a) (corner_side b c d) flat)
-    (mul-mixed (at_c b) (corner_side c a d) (weaken (at_c b) (leans c b f.c_in f.b_in (not_bc a b c d f))) right_ca)
-    (mul-positive (at_c d) (corner_side c a b) (leans c d f.c_in f.d_in f.not_c) (positive-along (corner_side c a b) (corner_side a b c) (side-turned (corner_at c) (corner_at a) (corner_at b)) f.turned)) level))
-    (λ right_ab. under (deep a b c d) (at_b a *ℤ corner_side b c d) (at_b c *ℤ corner_side a b d) (at_b d *ℤ corner_side a b c)
-    (depth-at_b (lift a) (lift b) (lift c) (lift d) (lean_e b) (lean_n b))
-    (times-zero (at_b a) (corner_side b c d) flat)
-    (mul-mixed (at_b c) (corner_side a b d) (weaken (at_b c) (leans b c f.b_in f.c_in (λ e. not_bc a b c d f (sym e)))) right_ab)
-    (mul-positive (at_b d) (corner_side a b c) (leans b d f.b_in f.d_in f.not_b) f.turned) level)
-  where
-    at_b : Corner → ℤ
-    at_b x = excess (lift b) (lean_e b) (lean_n b) (lift x)
-
-    at_c : Corner → ℤ
-    at_c x = excess (lift c) (lean_e c) (lean_n c) (lift x)
-
-    at_d : Corner → ℤ
-    at_d x = excess (lift d) (lean_e d) (lean_n d) (lift x)
+    (λ left_ca. never-level (deep a b c d) (deep_between a b c d f flat left_ab left_ca) level)
+    (λ right_ca. never-flat (deep a b c d) (shallow_past_c a b c d f flat right_ca) level))
+    (λ right_ab. never-flat (deep a b c d) (shallow_past_b a b c d f flat right_ab) level)

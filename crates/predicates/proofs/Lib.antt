@@ -1,6 +1,7 @@
 -- numbers
 pub mod Sizes
 pub mod Signs
+pub mod Compared
 -- places
 pub mod Orders
 pub mod Determinant
@@ -11,6 +12,7 @@ pub mod FlatSides
 -- far corners and heights
 pub mod FarSides
 pub mod Valid
+pub mod FarOrientations
 pub mod Depths
 pub mod OneEdgeBeyond
 pub mod HigherPlanes
@@ -22,7 +24,9 @@ pub mod NoFourInPlane
 pub mod FarAbove
 pub mod InsideDepths
 -- tests over corners
-pub mod Places
+pub mod Between
+pub mod Edges
+pub mod FarInside
 -- sums
 pub mod Sums
 pub mod Permuted
@@ -32,7 +36,6 @@ pub mod HalfOpen
 pub mod Crossings
 pub mod WeightedSides
 -- the tiling
-pub mod Edges
 pub mod Tiling
 pub mod FarTriangle
 pub mod Cover

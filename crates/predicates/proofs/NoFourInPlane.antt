@@ -126,7 +126,7 @@ none_highest f big m a b c d high less r n level l = record {
     at_fourth p q s t big n e h i j k lt = omega (arith, ints, e, h, i, j, k, lt)
 
 -- ---- the heights of corners, by the highest
-at-most : (h m n : ℕ) → h ≡ m → 2 ^ 120 * m < n → unsigned_abs (pos h) ≤ n
+pub at-most : (h m n : ℕ) → h ≡ m → 2 ^ 120 * m < n → unsigned_abs (pos h) ≤ n
 at-most h m n e lt = omega (arith, e, lt)
 
 -- the height of a place
@@ -136,7 +136,7 @@ place-height p h = by (unsigned_abs (height p)) (base ^ top) (base ^ (2 * top)) 
     by : (x s w : ℕ) → x ≤ 2 ^ 60 * s → 2 ^ 120 * s < w → x ≤ w
     by x s w h k = omega (arith, h, k)
 
-place-below : (p : Coords) (j : ℕ) → IsPlace p → 2 * top + 2 ≤ j → unsigned_abs (height p) ≤ base ^ j
+pub place-below : (p : Coords) (j : ℕ) → IsPlace p → 2 * top + 2 ≤ j → unsigned_abs (height p) ≤ base ^ j
 place-below p j h le = by (unsigned_abs (height p)) (base ^ (2 * top)) (base ^ j) (place-height p h) (outgrows (2 * top) j le)
   where
     by : (x s w : ℕ) → x ≤ s → 2 ^ 120 * s < w → x ≤ w

@@ -1,5 +1,6 @@
 pub mod Sign
 pub mod Laws
+pub mod Far
 pub mod Depth
 pub mod Net
 pub mod Sheet

@@ -5,6 +5,7 @@
 mod circle;
 mod corner;
 mod crossing;
+mod far;
 mod laws;
 mod sides;
 mod sign;
