@@ -1,7 +1,6 @@
 -- How numbers compare with zero, by their signs.
 use Rattle.std.proofs.Common.{◌≡◌, refl, sym, ap, ◌∙◌, arith, Bool, true, false, cond}
 use Rattle.std.specs.Prelude.{ℤ, pos, ◌<ℤ◌, int_lt}
-use Rattle.std.specs.declared.cmp.Ordering.{Ordering}
 use Rattle.std.specs.declared.cmp.Ordering.TheVariants.{Less, Equal, Greater}
 use Rattle.std.specs.Ordering.{int_cmp, ordering_then}
 use Rattle.std.proofs.lemmas.Int.{ints, by_lt_z}

@@ -1,8 +1,6 @@
 -- A circle with far corners: the highest of the four decides what is inside.
-use Rattle.std.proofs.Common.{◌≡◌, ℕ, zero, suc, ◌*◌, ◌^◌, ◌≤◌, ◌<◌, ◌⊎◌, inl, inr, refl, sym, ap, subst, ◌∙◌, arith, [], ◌∷◌, Bool, true, false, cond, ◌||◌}
+use Rattle.std.proofs.Common.{◌≡◌, ℕ, zero, suc, ◌*◌, ◌^◌, ◌≤◌, ◌<◌, ◌⊎◌, inl, inr, refl, sym, ap, subst, ◌∙◌, arith, [], ◌∷◌, Bool, true, false, ◌||◌}
 use Rattle.std.specs.Prelude.{ℤ, pos, negsuc, neg_ℤ, ◌+ℤ◌, ◌-ℤ◌, ◌*ℤ◌, ◌<ℤ◌, ◌≤ℤ◌, unsigned_abs, IsTrue}
-use Rattle.std.specs.declared.cmp.Ordering.{Ordering}
-use Rattle.std.specs.declared.cmp.Ordering.TheVariants.{Less, Equal, Greater}
 use Rattle.std.specs.Ordering.{int_cmp, is_gt}
 use Rattle.std.proofs.lemmas.Int.{ints, by_lt_z}
 use Rattle.std.proofs.lemmas.Bool.{or_cases}
@@ -13,7 +11,7 @@ use Rattle.ground_model.specs.Side.{side, is_left}
 use Rattle.ground_model.specs.Height.{base, top}
 use Rattle.ground_model.specs.Lifted.{Lifted}
 use Rattle.ground_model.specs.Corner.{corner_at, corner_side, is_corner_inside, is_same_corner, far_height}
-use Rattle.ground_model.proofs.Ring.{Expr, var, num, ◌⊕◌, ◌⊖◌, ◌⊗◌, ring}
+use Rattle.ground_model.proofs.Ring.{var, num, ◌⊕◌, ◌⊖◌, ◌⊗◌, ring}
 use Rattle.ground_model.proofs.ZOrder.{size-mul}
 use Rattle.ground_model.proofs.Circle.{sideE, side-turned, side-parts}
 use Rattle.ground_model.proofs.Lifted.{top_is}
@@ -21,7 +19,7 @@ use Rattle.ground_model.proofs.Ties.{turns_of_left}
 use Rattle.predicates.specs.Depth.{depth}
 use Rattle.predicates.specs.Far.{IsKnown, is_far, rank, is_between, is_inside_beside}
 use Rattle.predicates.proofs.Compared.{by_sign, cmp_less, cmp_greater, cmp_equal}
-use Rattle.predicates.proofs.Signs.{level-down, never-level, never-both, positive-along, weaken-neg}
+use Rattle.predicates.proofs.Signs.{level-down, never-level, positive-along, weaken-neg}
 use Rattle.predicates.proofs.FlatSides.{flat_ab, flat_bc, flat_ca}
 use Rattle.predicates.proofs.Valid.{IsValid, Place, Far0, Far1, Far2}
 use Rattle.predicates.proofs.FarOrientations.{valid-of, Flat, Three, Ends, AtEnd, flat}

@@ -1,9 +1,8 @@
 -- The sides of far corners, by their tables.
-use Rattle.std.proofs.Common.{◌≡◌, ℕ, zero, suc, ◌+◌, ◌*◌, ◌^◌, ◌%◌, ◌<◌, ◌≤◌, ◌⊎◌, inl, inr, refl, sym, ap, subst, ◌∙◌, arith, [], ◌∷◌, Bool, true, false, cond, ◌||◌}
-use Rattle.std.specs.Prelude.{ℤ, pos, neg_ℤ, ◌+ℤ◌, ◌-ℤ◌, ◌*ℤ◌, ◌<ℤ◌, ◌≤ℤ◌, unsigned_abs, nat_eq, IsTrue}
-use Rattle.std.specs.declared.cmp.Ordering.{Ordering}
+use Rattle.std.proofs.Common.{◌≡◌, ℕ, zero, suc, ◌+◌, ◌^◌, ◌%◌, ◌<◌, ◌≤◌, ◌⊎◌, inl, inr, refl, sym, ap, subst, ◌∙◌, arith, [], ◌∷◌, Bool, true, false, cond, ◌||◌}
+use Rattle.std.specs.Prelude.{ℤ, pos, neg_ℤ, ◌+ℤ◌, ◌-ℤ◌, ◌*ℤ◌, ◌<ℤ◌, ◌≤ℤ◌, unsigned_abs, nat_eq}
 use Rattle.std.specs.declared.cmp.Ordering.TheVariants.{Less, Equal, Greater}
-use Rattle.std.specs.Ordering.{int_cmp, ordering_then}
+use Rattle.std.specs.Ordering.{int_cmp}
 use Rattle.std.proofs.lemmas.Int.{ints}
 use Rattle.std.proofs.lemmas.Bool.{eqb-true, eqb-false}
 use Rattle.ground_model.specs.declared.corner.Corner.{Corner}
@@ -11,7 +10,7 @@ use Rattle.ground_model.specs.declared.corner.Corner.TheVariants.{At, Far}
 use Rattle.ground_model.specs.Place.{Coords, IsPlace}
 use Rattle.ground_model.specs.Side.{side}
 use Rattle.ground_model.specs.Corner.{corner_at, corner_side, direction, far}
-use Rattle.ground_model.proofs.Ring.{var, ◌⊕◌, ◌⊖◌, ◌⊗◌, ring}
+use Rattle.ground_model.proofs.Ring.{var, ◌⊖◌, ◌⊗◌, ring}
 use Rattle.ground_model.proofs.ZOrder.{size-mul, size-sub, outweighs, outweighs_below}
 use Rattle.ground_model.proofs.Circle.{side-turned, same_coords}
 use Rattle.predicates.specs.Far.{IsKnown, side_toward, side_around, side_with, is_between}

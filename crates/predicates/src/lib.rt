@@ -24,4 +24,6 @@ pub use triangle::{holds, triangle_holds};
 pub use wall::walled;
 
 #[cfg(test)]
+mod far_tests;
+#[cfg(test)]
 mod tests;

@@ -1,8 +1,4 @@
-use Rattle.std.proofs.Common.{◌≡◌, ℕ, ◌≤◌, ◌<◌, sym, ◌∙◌, arith}
-use Rattle.ground_model.specs.declared.corner.Corner.{Corner}
-use Rattle.ground_model.specs.Side.{is_left}
-use Rattle.ground_model.specs.Corner.{corner_at}
-use Rattle.std.specs.Prelude.{IsTrue, pos, ◌<ℤ◌}
+use Rattle.std.proofs.Common.{◌≤◌, ◌<◌, sym, ◌∙◌, arith}
 use Rattle.predicates.specs.Far.{rank}
 use Rattle.predicates.proofs.FarInside.{first-decides, last-decides, highest-far, inside-turned, left-turned}
 use Rattle.predicates.proofs.far.is_inside_with_far.Goals as goal

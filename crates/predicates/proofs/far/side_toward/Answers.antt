@@ -1,4 +1,4 @@
-use Rattle.std.proofs.Common.{◌≡◌, ℕ, cond, ◌-ℤ◌, ◌≤◌, ◌^◌, pos, sym, ap, ◌∙◌, arith, rules, ℤ, ◌+ℤ◌, to_z, of_z, w64}
+use Rattle.std.proofs.Common.{◌≡◌, ℕ, cond, ◌-ℤ◌, ◌≤◌, ◌^◌, pos, sym, ap, ◌∙◌, arith, ℤ, ◌+ℤ◌, to_z, of_z, w64}
 use Rattle.std.specs.Prelude.{neg_ℤ, unsigned_abs, nat_eq}
 use Rattle.std.specs.Ordering.{int_cmp, ordering_then}
 use Rattle.std.proofs.lemmas.Int.{ints}
