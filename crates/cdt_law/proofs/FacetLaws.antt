@@ -67,7 +67,7 @@ unique_law net other sheet local sheet' local' o f =
 
 -- ---- a net by itself
 -- the count of a net, from each point to the later ones
-abbrev later_count : Net → Coords → Coords → ℕ
+abbrev pub later_count : Net → Coords → Coords → ℕ
 later_count net p q = if is_before p q then net.count p q else 0
 
 -- no piece begins and ends at one place

@@ -22,3 +22,6 @@ pub mod SheetFacets
 pub mod FacetLaws
 pub mod CommonEdge
 pub mod FacetsOnce
+-- flips
+pub mod NoWallOver
+pub mod FlipLaws

@@ -2,6 +2,7 @@
 //! is the constrained Delaunay triangulation, of which there is only one. It never asks how a sheet is kept or made.
 #![tactic(auto)]
 
+ghost use Rattle.cdt_law.specs.Flips.{DestroyedLaw, FlipLaw};
 ghost use Rattle.cdt_law.specs.Laws.{EdgeLaw, FacetLaw, FirstLaw, LocalLaw, NetLaw, OnceLaw, UniqueLaw};
 
 /// The triangle of the far corners alone is a locally Delaunay sheet of no points: the laws below are about something.
@@ -39,4 +40,16 @@ pub fn unique_law()
 /// Two facets of a content with a directed edge in common are one, also where its pieces cross.
 pub fn edge_law()
     ensures { EdgeLaw }
+{}
+
+/// The flip of an edge that is no piece and is not locally Delaunay (Lawson 1977) destroys no facet of the sheet's own
+/// points and pieces: neither of the two triangles over it is one.
+pub fn flip_law()
+    ensures { FlipLaw }
+{}
+
+/// Such a flip destroys no facet of any net that has the sheet's points and no pieces but those of the sheet: the net
+/// before a line was added, or the one after a line was taken away.
+pub fn destroyed_law()
+    ensures { DestroyedLaw }
 {}

@@ -64,7 +64,7 @@ depth-at_d a b c d k l =
     over : ℕ → Expr
     over x = h x ⊖ h 3 ⊖ var 12 ⊗ (var (2 * x) ⊖ var 6) ⊖ var 13 ⊗ (var (2 * x + 1) ⊖ var 7)
 
-times-zero : (f s : ℤ) → s ≡ pos 0 → f *ℤ s ≡ pos 0
+pub times-zero : (f s : ℤ) → s ≡ pos 0 → f *ℤ s ≡ pos 0
 times-zero f s e = ap (λ k. f *ℤ k) e ∙ ring (f ∷ []) (var 0 ⊗ num (pos 0)) (num (pos 0)) refl
 
 -- how far x is above the plane through b
