@@ -161,10 +161,11 @@ facet-sound net sound f e = tested-of (later_count net) net.points (sound-counts
 
 -- ---- the laws
 pub destroyed_law : DestroyedLaw
-destroyed_law net other sheet sound fewer a b c d illegal f e =
-    (by (is_on f a b c) (λ on. off_left net sheet s within f.a f.b f.c h.good a b c d (turn-of a b c (record { a = At f.a; b = At f.b; c = At f.c }) on) illegal.left illegal.right illegal.free deep_d),
-    by (is_on f b a d) (λ on. off_left net sheet s within f.a f.b f.c h.good b a d c (turn-of b a d (record { a = At f.a; b = At f.b; c = At f.c }) on) illegal.right illegal.left (count-back net sheet a b illegal.free)
-    (positive-along (deep b a d c) (deep a b c d) (sym (depth-exchanged (lift a) (lift b) (lift c) (lift d))) deep_d)))
+destroyed_law net other sheet sound fewer a b c d illegal f e = (
+  by (is_on f a b c) (λ on. off_left net sheet s within f.a f.b f.c h.good a b c d (turn-of a b c (record { a = At f.a; b = At f.b; c = At f.c }) on) illegal.left illegal.right illegal.free deep_d),
+  by (is_on f b a d) (λ on. off_left net sheet s within f.a f.b f.c h.good b a d c (turn-of b a d (record { a = At f.a; b = At f.b; c = At f.c }) on) illegal.right illegal.left (count-back net sheet a b illegal.free)
+      (positive-along (deep b a d c) (deep a b c d) (sym (depth-exchanged (lift a) (lift b) (lift c) (lift d))) deep_d)),
+)
   where
     s : Site
     s = site_by (later_count other) other.points

@@ -25,3 +25,8 @@ pub mod FacetsOnce
 -- flips
 pub mod NoWallOver
 pub mod FlipLaws
+pub mod Exchanged
+pub mod FlipFalls
+pub mod FlipQuad
+pub mod FlipKept
+pub mod IllegalEdge

@@ -1,15 +1,18 @@
 -- Flips of edges, and which facets they destroy.
-use Rattle.std.specs.Prelude.{ℕ, ◌≡◌, ◌<◌, true, false, Bool}
+use Rattle.std.specs.Prelude.{ℕ, ◌≡◌, ◌<◌, ◌^◌, true, false, Bool, ℤ, pos, ◌+ℤ◌, ◌*ℤ◌, unsigned_abs, Some, slice_get, slice_set}
 use Rattle.std.specs.List.{All}
 use Rattle.ground_model.specs.declared.corner.Corner.{Corner}
-use Rattle.ground_model.specs.declared.corner.Corner.TheVariants.{At}
+use Rattle.ground_model.specs.declared.corner.Corner.TheVariants.{At, Far}
 use Rattle.ground_model.specs.declared.facet.Facet.{Facet}
 use Rattle.ground_model.specs.Place.{Coords, IsPlace}
 use Rattle.ground_model.specs.Line.{is_point}
-use Rattle.ground_model.specs.Corner.{is_corner_inside}
+use Rattle.ground_model.specs.Height.{base, top, height}
+use Rattle.ground_model.specs.Corner.{corner_side, far_height, is_corner_inside}
 use Rattle.ground_model.specs.Mark.{is_among}
-use Rattle.predicates.specs.Net.{Net, Triangle, has, is_triangle, count_of, tri_of}
+use Rattle.predicates.specs.Sums.{total}
+use Rattle.predicates.specs.Net.{Net, Triangle, has, is_triangle, is_turned, count_of, tri_of}
 use Rattle.predicates.specs.Sheet.{IsSheet}
+use Rattle.cdt_law.specs.Laws.{AreOverOne}
 
 -- the points are places, and pieces join points, with one count in both directions
 pub record IsSound (net : Net) : Type 0 where
@@ -42,3 +45,44 @@ DestroyedLaw = (net other : Net) → IsSheet net → IsSound other → HasFewerP
 abbrev pub FlipLaw : Type 0
 FlipLaw = (net : Net) → IsSheet net → (a b c d : Corner) → IsIllegal net a b c d
     → (f : Facet) → is_among (tri_of net) f ≡ true → (is_on f a b c ≡ false) × (is_on f b a d ≡ false)
+
+-- the net's triangle a, b, c, at its index
+pub record HasAt (net : Net) (a b c : Corner) : Type 0 where
+  pub index : ℕ
+  pub triangle : Triangle
+  pub at : slice_get net.triangles index ≡ Some triangle
+  pub is : is_triangle a b c triangle ≡ true
+
+-- the net after a flip of ab to cd: abc and bad are exchanged for adc and dbc
+pub record IsFlip (net after : Net) (a b c d : Corner) : Type 0 where
+  pub over : AreOverOne net after
+  pub left : HasAt net a b c
+  pub right : HasAt net b a d
+  pub apart : left.index ≡ right.index → ⊥
+  pub first : Triangle
+  pub second : Triangle
+  pub first_is : is_triangle a d c first ≡ true
+  pub second_is : is_triangle d b c second ≡ true
+  pub triangles : after.triangles ≡ slice_set (slice_set net.triangles left.index first) right.index second
+
+-- a flip of an edge that is no piece, within a strictly convex quadrilateral, keeps a sheet
+abbrev pub KeptLaw : Type 0
+KeptLaw = (net after : Net) → IsSheet net → (a b c d : Corner) → IsFlip net after a b c d → count_of net a b ≡ 0
+    → is_turned (record { a = a; b = d; c = c }) ≡ true → is_turned (record { a = d; b = b; c = c }) ≡ true → IsSheet after
+
+-- the height of a corner over the lowest that there is
+abbrev pub height_over : Corner → ℤ
+height_over (At p) = height p +ℤ pos (base ^ top)
+height_over (Far k) = pos (far_height k) +ℤ pos (base ^ top)
+
+-- six times the volume below a lifted triangle
+abbrev pub volume_below : Triangle → ℤ
+volume_below t = corner_side t.a t.b t.c *ℤ (height_over t.a +ℤ height_over t.b +ℤ height_over t.c)
+
+-- the volume below all lifted triangles, as a number to count down
+abbrev pub lifted_sum : Net → ℕ
+lifted_sum net = unsigned_abs (total volume_below net.triangles)
+
+-- the flip of an illegal edge keeps a sheet, and lowers the sum
+abbrev pub FallLaw : Type 0
+FallLaw = (net after : Net) → IsSheet net → (a b c d : Corner) → IsIllegal net a b c d → IsFlip net after a b c d → IsSheet after × (lifted_sum after < lifted_sum net)

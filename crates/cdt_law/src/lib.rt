@@ -2,7 +2,7 @@
 //! is the constrained Delaunay triangulation, of which there is only one. It never asks how a sheet is kept or made.
 #![tactic(auto)]
 
-ghost use Rattle.cdt_law.specs.Flips.{DestroyedLaw, FlipLaw};
+ghost use Rattle.cdt_law.specs.Flips.{DestroyedLaw, FallLaw, FlipLaw, KeptLaw};
 ghost use Rattle.cdt_law.specs.Laws.{EdgeLaw, FacetLaw, FirstLaw, LocalLaw, NetLaw, OnceLaw, UniqueLaw};
 
 /// The triangle of the far corners alone is a locally Delaunay sheet of no points: the laws below are about something.
@@ -52,4 +52,15 @@ pub fn flip_law()
 /// before a line was added, or the one after a line was taken away.
 pub fn destroyed_law()
     ensures { DestroyedLaw }
+{}
+
+/// A flip within a strictly convex quadrilateral, of an edge that is no piece, keeps a sheet.
+pub fn kept_law()
+    ensures { KeptLaw }
+{}
+
+/// The flip of an edge that is no piece and is not locally Delaunay keeps a sheet, and lowers the volume below its lifted
+/// triangles, a natural number. So however such flips are chosen, they come to an end.
+pub fn fall_law()
+    ensures { FallLaw }
 {}

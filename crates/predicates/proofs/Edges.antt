@@ -31,7 +31,7 @@ pub corner-self : (x : Corner) → is_same_corner x x ≡ true
 corner-self (At p) = and_from _ _ (int-self p.e) (int-self p.n)
 corner-self (Far k) = eq-eqb k k refl
 
-edge-equal : (x y : Edge) → is_same_edge x y ≡ true → x ≡ y
+pub edge-equal : (x y : Edge) → is_same_edge x y ≡ true → x ≡ y
 edge-equal x y e =
     let both = and_parts (is_same_corner x.0 y.0) (is_same_corner x.1 y.1) e in
     (λ i. (corner-equal x.0 y.0 both.0 i, corner-equal x.1 y.1 both.1 i))
@@ -39,7 +39,7 @@ edge-equal x y e =
 pub edge-tells : TellsEqual is_same_edge
 edge-tells = record { equal = edge-equal; self = λ x. and_from _ _ (corner-self x.0) (corner-self x.1) }
 
-edge-turned : (x y : Edge) → is_same_edge (reversed x) y ≡ is_same_edge x (reversed y)
+pub edge-turned : (x y : Edge) → is_same_edge (reversed x) y ≡ is_same_edge x (reversed y)
 edge-turned x y = exchanged (is_same_corner x.1 y.0) (is_same_corner x.0 y.1)
   where
     exchanged : (a b : Bool) → (a && b) ≡ (b && a)
@@ -49,7 +49,7 @@ edge-turned x y = exchanged (is_same_corner x.1 y.0) (is_same_corner x.0 y.1)
     exchanged false false = refl
 
 -- ---- a count is a sum of ones
-counted : {X : Type 0} (p : X → Bool) (xs : List X) → pos (count_by p xs) ≡ total (λ x. indicate (p x)) xs
+pub counted : {X : Type 0} (p : X → Bool) (xs : List X) → pos (count_by p xs) ≡ total (λ x. indicate (p x)) xs
 counted p [] = refl
 counted p (x ∷ xs) = ap pos (sum_by-cons (λ y. cond (p y) 1 0) x xs) ∙ one_more (p x) (count_by p xs) (total (λ y. indicate (p y)) xs) (counted p xs)
   where

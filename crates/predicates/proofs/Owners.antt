@@ -59,7 +59,7 @@ pub record Owner (ts : List Triangle) (a b : Corner) : Type 0 where
 later : (ts : List Triangle) (t : Triangle) (a b : Corner) → Owner ts a b → Owner (t ∷ ts) a b
 later ts t a b o = record { index = suc o.index; triangle = o.triangle; third = o.third; at = o.at; turn = o.turn }
 
-some_of_three : (x y z : Bool) (n : ℕ) → 0 < (0 + cond x 1 0 + cond y 1 0 + cond z 1 0) + n → (x ≡ true) ⊎ ((y ≡ true) ⊎ ((z ≡ true) ⊎ (0 < n)))
+pub some_of_three : (x y z : Bool) (n : ℕ) → 0 < (0 + cond x 1 0 + cond y 1 0 + cond z 1 0) + n → (x ≡ true) ⊎ ((y ≡ true) ⊎ ((z ≡ true) ⊎ (0 < n)))
 some_of_three true y z n h = inl refl
 some_of_three false true z n h = inr (inl refl)
 some_of_three false false true n h = inr (inr (inl refl))

@@ -180,7 +180,7 @@ above : (h s : ℕ) → neg_ℤ (pos s) ≤ℤ pos h
 above h s = omega (arith, ints)
 
 -- heights are not far below zero
-height-low : (z : Corner) → IsValid z → neg_ℤ (pos scale) ≤ℤ corner_height z
+pub height-low : (z : Corner) → IsValid z → neg_ℤ (pos scale) ≤ℤ corner_height z
 height-low z (Place p h) = by (height p) (square p *ℤ pos scale) scale (lowering p) (height_is p) (nonneg (square p) scale (squares p.e p.n)) (lowering-small p h)
   where
     by : (z q : ℤ) (s l : ℕ) → z ≡ q -ℤ pos l → pos 0 ≤ℤ q → l < s → neg_ℤ (pos s) ≤ℤ z
