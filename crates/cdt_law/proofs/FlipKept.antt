@@ -1,12 +1,12 @@
 -- A flip of an edge that is no piece, within a strictly convex quadrilateral, keeps a sheet.
-use Rattle.std.proofs.Common.{◌≡◌, ℕ, zero, suc, ◌+◌, ◌<◌, ◌≤◌, ◌⊎◌, inl, inr, refl, sym, ap, subst, ◌∙◌, arith, List, [], ◌∷◌, Bool, true, false}
+use Rattle.std.proofs.Common.{◌≡◌, ℕ, ◌+◌, ◌<◌, ◌≤◌, ◌⊎◌, inl, inr, refl, sym, ap, subst, ◌∙◌, arith, List, Bool, true, false}
 use Rattle.std.specs.Prelude.{ℤ, pos, ◌+ℤ◌, ◌<ℤ◌, ◌≤ℤ◌, int_lt, not, ◌&&◌, ◌||◌, Some, slice_get, slice_set, cond, nat_eq}
 use Rattle.std.specs.List.{list_all, list_any}
 use Rattle.std.proofs.lemmas.Int.{ints}
 use Rattle.std.proofs.lemmas.Bool.{and_parts, and_from, or_left, or_right, eqb-true, eqb-false}
 use Rattle.std.proofs.lemmas.List.Sums.{sum_by-append}
 use Rattle.ground_model.specs.declared.corner.Corner.{Corner}
-use Rattle.ground_model.specs.declared.corner.Corner.TheVariants.{At, Far}
+use Rattle.ground_model.specs.declared.corner.Corner.TheVariants.{At}
 use Rattle.ground_model.specs.Place.{Coords, is_same}
 use Rattle.ground_model.specs.Line.{is_point}
 use Rattle.ground_model.specs.Corner.{corner_at, corner_side, is_same_corner}
@@ -23,12 +23,12 @@ use Rattle.predicates.proofs.Edges.{counted, edge-tells, edge-turned, corner-sel
 use Rattle.predicates.proofs.Tiling.{each-passes}
 use Rattle.predicates.proofs.Owners.{IsTurn, Still, Once, Twice}
 use Rattle.predicates.proofs.HasTriangles.{Found, any-found, any-at, turn-of}
-use Rattle.cdt_law.specs.Flips.{IsFlip, HasAt, KeptLaw}
+use Rattle.cdt_law.specs.Flips.{IsFlip, KeptLaw}
 use Rattle.cdt_law.proofs.Walk.{turn-next}
 use Rattle.cdt_law.proofs.WalkSteps.{at-corner}
 use Rattle.cdt_law.proofs.GoodInSheet.{over-first}
 use Rattle.cdt_law.proofs.Exchanged.{get-set, get-set_other, set-item, passes-each, total-exchanged}
-use Rattle.cdt_law.proofs.FlipQuad.{InNet, Quad, quad-swapped, quad-left, no_edge, no_rim, first-only}
+use Rattle.cdt_law.proofs.FlipQuad.{InNet, Quad, quad-swapped, no_edge, no_rim, first-only}
 
 -- ---- how often an edge occurs
 abbrev one : Edge → Corner → Corner → ℤ
@@ -215,7 +215,7 @@ turn-turned t a b c Still h = turned-test (corner_side t.a t.b t.c) h
 turn-turned t a b c Once h = turned-test (corner_side t.a t.b t.c) (positive-along (corner_side t.a t.b t.c) (corner_side t.b t.c t.a) (side-turned (corner_at t.a) (corner_at t.b) (corner_at t.c)) h)
 turn-turned t a b c Twice h = turned-test (corner_side t.a t.b t.c) (positive-along (corner_side t.a t.b t.c) (corner_side t.c t.a t.b) (sym (side-turned (corner_at t.c) (corner_at t.a) (corner_at t.b))) h)
 
-turn-has_corner : (t : Triangle) (a b c z : Corner) → IsTurn t a b c → (z ≡ a) ⊎ ((z ≡ b) ⊎ (z ≡ c)) → has_corner t z ≡ true
+pub turn-has_corner : (t : Triangle) (a b c z : Corner) → IsTurn t a b c → (z ≡ a) ⊎ ((z ≡ b) ⊎ (z ≡ c)) → has_corner t z ≡ true
 turn-has_corner t a b c z turn at = by turn at
   where
     same : (y : Corner) → z ≡ y → is_same_corner y z ≡ true
@@ -288,12 +288,12 @@ not_beyond s e = by (int_lt s (pos 0)) refl e
     by true f g = cc
     by false f g = omega (arith, ints, sym f)
 
-record Held (a b c : Corner) (p : Coords) : Type 0 where
-  ab : pos 0 ≤ℤ corner_side a b (At p)
-  bc : pos 0 ≤ℤ corner_side b c (At p)
-  ca : pos 0 ≤ℤ corner_side c a (At p)
+pub record Held (a b c : Corner) (p : Coords) : Type 0 where
+  pub ab : pos 0 ≤ℤ corner_side a b (At p)
+  pub bc : pos 0 ≤ℤ corner_side b c (At p)
+  pub ca : pos 0 ≤ℤ corner_side c a (At p)
 
-turn-held : (t : Triangle) (a b c : Corner) (p : Coords) → IsTurn t a b c → covers t p ≡ true → Held a b c p
+pub turn-held : (t : Triangle) (a b c : Corner) (p : Coords) → IsTurn t a b c → covers t p ≡ true → Held a b c p
 turn-held t a b c p turn e = by a b c turn
   where
     outer : ((not (is_beyond t.a t.b p) && not (is_beyond t.b t.c p)) ≡ true) × (not (is_beyond t.c t.a p) ≡ true)

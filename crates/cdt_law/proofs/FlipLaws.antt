@@ -1,33 +1,38 @@
 -- The flip of an illegal edge destroys no facet.
-use Rattle.std.proofs.Common.{◌≡◌, ℕ, ◌<◌, refl, sym, ap, subst, ◌∙◌, arith, [], ◌∷◌, Bool, true, false}
-use Rattle.std.specs.Prelude.{ℤ, pos, ◌<ℤ◌, if◌then◌else◌}
-use Rattle.std.proofs.lemmas.Int.{ints}
+use Rattle.std.proofs.Common.{◌≡◌, ℕ, ◌<◌, ◌⊎◌, inl, inr, refl, sym, ap, subst, ◌∙◌, arith, List, [], ◌∷◌, Bool, true, false}
+use Rattle.std.specs.Prelude.{pos, ◌<ℤ◌, if◌then◌else◌}
+use Rattle.std.specs.List.{All}
+use Rattle.std.proofs.lemmas.List.Elements.{All-nil, All-cons}
 use Rattle.ground_model.specs.declared.corner.Corner.{Corner}
 use Rattle.ground_model.specs.declared.corner.Corner.TheVariants.{At, Far}
 use Rattle.ground_model.specs.declared.facet.Facet.{Facet}
 use Rattle.ground_model.specs.Place.{Coords, is_before}
-use Rattle.ground_model.specs.Side.{side}
+use Rattle.ground_model.specs.Side.{side, crosses}
 use Rattle.ground_model.specs.Line.{is_point}
 use Rattle.ground_model.specs.Lifted.{Lifted}
-use Rattle.ground_model.specs.Corner.{corner_at, corner_side}
+use Rattle.ground_model.specs.Corner.{corner_at}
 use Rattle.ground_model.specs.Mark.{is_among}
 use Rattle.ground_model.specs.Table.{pieces_by}
-use Rattle.ground_model.proofs.Ring.{Expr, var, ◌⊕◌, ◌⊖◌, ◌⊗◌, ring}
+use Rattle.ground_model.proofs.Ring.{var, ◌⊕◌, ◌⊖◌, ◌⊗◌, ring}
 use Rattle.ground_model.proofs.Circle.{sideE}
 use Rattle.ground_model.proofs.Members.{is_among-facets}
+use Rattle.ground_model.proofs.Elements.{In, each_at}
+use Rattle.ground_model.proofs.Along.{same_place}
 use Rattle.predicates.specs.Depth.{depth}
-use Rattle.predicates.specs.Net.{Net, Triangle, has, is_triangle, count_of, tri_of}
+use Rattle.predicates.specs.Net.{Net, Triangle, has, has_corner, count_of, tri_of}
 use Rattle.predicates.specs.Sheet.{IsSheet, is_over}
-use Rattle.predicates.proofs.Signs.{positive-along, negative-neg}
-use Rattle.predicates.proofs.FlatSides.{side-back}
+use Rattle.predicates.proofs.Signs.{never-both, never-level, positive-along, positive-neg, negative-along, negative-neg}
+use Rattle.predicates.proofs.FlatSides.{flat_ab, side-back}
 use Rattle.predicates.proofs.Heights.{lift, deep}
 use Rattle.predicates.proofs.InsideDepths.{inside-deep}
 use Rattle.predicates.proofs.Valid.{IsValid}
 use Rattle.predicates.proofs.FarTriangle.{sheet-valid, listed-place}
 use Rattle.predicates.proofs.Tiling.{left-of}
+use Rattle.predicates.proofs.CrossedEdges.{Crosses}
+use Rattle.predicates.proofs.NeverCross.{crosses-way}
 use Rattle.predicates.proofs.Owners.{IsTurn, Still, Once, Twice, Owner, turn-side}
 use Rattle.predicates.proofs.HasTriangles.{has-owner, turn-of, HasOwner}
-use Rattle.cdt_law.specs.Flips.{IsSound, IsIllegal, HasFewerPieces, is_on, DestroyedLaw, FlipLaw}
+use Rattle.cdt_law.specs.Flips.{IsSound, IsIllegal, HasFewerPieces, is_on, IsGone, Flipped, FlippedBehind, Crossed, Without, Covering, Step, IsStep, DestroyedLaw, EditLaw, FlipLaw}
 use Rattle.cdt_law.proofs.Walk.{turn-next, turn-valid}
 use Rattle.cdt_law.proofs.GoodTriangle.{Site, IsGood, WallAt, good-turned}
 use Rattle.cdt_law.proofs.GoodInSheet.{site_of, sheet-site, over-first, below-point}
@@ -36,7 +41,8 @@ use Rattle.cdt_law.proofs.Counts.{CountsPieces, both_ways, both-then, both-else}
 use Rattle.cdt_law.proofs.GoodFacet.{site_by}
 use Rattle.cdt_law.proofs.SheetFacets.{IsFacetOf, tested-of}
 use Rattle.cdt_law.proofs.FacetLaws.{later_count}
-use Rattle.cdt_law.proofs.NoWallOver.{IsOver, no_wall}
+use Rattle.cdt_law.proofs.NoWallOver.{no_wall}
+use Rattle.cdt_law.proofs.FlipKept.{turn-held, turn-has_corner}
 
 -- ---- of the two triangles over an illegal edge none is good
 -- the points and pieces of the site are such of the net
@@ -160,10 +166,12 @@ pub facet-sound : (net : Net) → IsSound net → (f : Facet) → is_among (tri_
 facet-sound net sound f e = tested-of (later_count net) net.points (sound-counts net sound) sound.places f (sym (is_among-facets net.points (pieces_by (later_count net) net.points) f) ∙ e)
 
 -- ---- the laws
-pub destroyed_law : DestroyedLaw
-destroyed_law net other sheet sound fewer a b c d illegal f e = (
-  by (is_on f a b c) (λ on. off_left net sheet s within f.a f.b f.c h.good a b c d (turn-of a b c (record { a = At f.a; b = At f.b; c = At f.c }) on) illegal.left illegal.right illegal.free deep_d),
-  by (is_on f b a d) (λ on. off_left net sheet s within f.a f.b f.c h.good b a d c (turn-of b a d (record { a = At f.a; b = At f.b; c = At f.c }) on) illegal.right illegal.left (count-back net sheet a b illegal.free)
+-- neither triangle over an illegal edge is a facet
+no_facet : (net other : Net) → IsSheet net → IsSound other → HasFewerPieces other net → (a b c d : Corner) → IsIllegal net a b c d → (f : Facet) → IsFacetOf (site_by (later_count other) other.points) f
+    → (IsTurn (record { a = At f.a; b = At f.b; c = At f.c }) a b c → ⊥) × (IsTurn (record { a = At f.a; b = At f.b; c = At f.c }) b a d → ⊥)
+no_facet net other sheet sound fewer a b c d illegal f h = (
+  (λ turn. off_left net sheet s within f.a f.b f.c h.good a b c d turn illegal.left illegal.right illegal.free deep_d),
+  (λ turn. off_left net sheet s within f.a f.b f.c h.good b a d c turn illegal.right illegal.left (count-back net sheet a b illegal.free)
       (positive-along (deep b a d c) (deep a b c d) (sym (depth-exchanged (lift a) (lift b) (lift c) (lift d))) deep_d)),
 )
   where
@@ -173,19 +181,98 @@ destroyed_law net other sheet sound fewer a b c d illegal f e = (
     within : IsWithin s net
     within = record { points = fewer.points; pieces = λ p q some. fewer.pieces p q (later-some other sound p q some) }
 
+    deep_d : pos 0 <ℤ deep a b c d
+    deep_d = inside-deep a b c d illegal.inside
+
+-- the facet's corners are points, no piece crosses its edges, and it has no other point
+turn-facet_good : (s : Site) (f : Facet) (a b c : Corner) → IsFacetOf s f → IsTurn (record { a = At f.a; b = At f.b; c = At f.c }) a b c → IsGood s a b c × (is_over s.points a ≡ true)
+turn-facet_good s f a b c h turn = by (At f.a) (At f.b) (At f.c) a b c turn h.good h.at_a h.at_b h.at_c
+  where
+    by : (p q r x y z : Corner) → IsTurn (record { a = p; b = q; c = r }) x y z → IsGood s p q r → is_over s.points p ≡ true → is_over s.points q ≡ true → is_over s.points r ≡ true → IsGood s x y z × (is_over s.points x ≡ true)
+    by p q r x y z Still g i j k = (g, i)
+    by p q r x y z Once g i j k = (good-turned s p q r g, j)
+    by p q r x y z Twice g i j k = (good-turned s q r p (good-turned s p q r g), k)
+
+some-later : (net : Net) → IsSound net → (p q : Coords) → (p ≡ q → ⊥) → 0 < net.count p q → 0 < both_ways (later_count net) p q
+some-later net sound p q differ some = by (is_before p q) (is_before q p) refl refl
+  where
+    later : (x y : Coords) → is_before x y ≡ true → later_count net x y ≡ net.count x y
+    later x y e = ap (λ (k : Bool). if k then net.count x y else 0) e
+
+    along : (m n : ℕ) → m ≡ n → 0 < n → 0 < m
+    along m n e h = omega (arith, e, h)
+
+    by : (t u : Bool) → is_before p q ≡ t → is_before q p ≡ u → 0 < both_ways (later_count net) p q
+    by true u e f = along (both_ways (later_count net) p q) (net.count p q) (both-then (later_count net) p q e ∙ later p q e) some
+    by false true e f = along (both_ways (later_count net) p q) (net.count p q) (both-else (later_count net) p q e ∙ later q p f ∙ sound.even q p) some
+    by false false e f = absurd (differ (same_place p q e f))
+
+pub destroyed_law : DestroyedLaw
+destroyed_law net other sheet sound a b c gone f e = by (is_on f a b c) (λ on. none gone (turn-of a b c (record { a = At f.a; b = At f.b; c = At f.c }) on))
+  where
+    s : Site
+    s = site_by (later_count other) other.points
+
     h : IsFacetOf s f
     h = facet-sound other sound f e
 
-    deep_d : pos 0 <ℤ deep a b c d
-    deep_d = inside-deep a b c d illegal.inside
+    never : (t : Bool) → t ≡ false → t ≡ true → ⊥
+    never true e g = cc
+    never false e g = cc
+
+    uncrossed : IsGood s a b c → (p q : Coords) → 0 < other.count p q → crosses (corner_at a) (corner_at b) p q ≡ true → ⊥
+    uncrossed good p q some x = way (crosses-way (corner_at a) (corner_at b) p q x)
+      where
+        way : Crosses (corner_at a) (corner_at b) p q ⊎ Crosses p q (corner_at a) (corner_at b) → ⊥
+        way (inl k) = good.free_ab p q (some-later other sound p q (λ i. never-both (side (corner_at a) (corner_at b) q) k.v_left (negative-along (side (corner_at a) (corner_at b) q) (side (corner_at a) (corner_at b) p) (ap (side (corner_at a) (corner_at b)) (sym i)) k.u_right)) some) k
+        way (inr k) = good.free_ab q p (some-later other sound q p (λ i. never-level (side p q (corner_at b)) k.v_left (flat_ab p q (corner_at b) (sym i))) (along (other.count q p) (other.count p q) (sound.even q p) some)) (record {
+          v_left = k.a_left;
+          u_right = k.b_right;
+          a_left = positive-neg (side p q (corner_at a)) (side q p (corner_at a)) (side-back p q (corner_at a)) k.u_right;
+          b_right = negative-neg (side p q (corner_at b)) (side q p (corner_at b)) (side-back p q (corner_at b)) k.v_left;
+        })
+          where
+            along : (m n : ℕ) → m ≡ n → 0 < n → 0 < m
+            along m n e h = omega (arith, e, h)
+
+    none : IsGone net other a b c → IsTurn (record { a = At f.a; b = At f.b; c = At f.c }) a b c → ⊥
+    none (Flipped d illegal fewer) turn = (no_facet net other sheet sound fewer a b c d illegal f h).0 turn
+    none (FlippedBehind d illegal fewer) turn = (no_facet net other sheet sound fewer b a d c illegal f h).1 turn
+    none (Crossed p q some x) turn = uncrossed (turn-facet_good s f a b c h turn).0 p q some x
+    none (Without out) turn = never (is_over other.points a) out (turn-facet_good s f a b c h turn).1
+    none (Covering p at held off) turn =
+        let t : Triangle = record { a = a; b = b; c = c } in
+        let k = turn-held t a b c p Still held in
+        never (has_corner t (At p)) off (turn-has_corner t a b c (At p) Still ((turn-facet_good s f a b c h turn).0.clear p at k.ab k.bc k.ca))
 
     by : (t : Bool) → (t ≡ true → ⊥) → t ≡ false
     by true h = absurd (h refl)
     by false h = refl
+
+-- ---- a whole edit
+pub edit_law : EditLaw
+edit_law before after sound_before sound_after steps each f in_before in_after = all_of steps (λ s i. off s (each_at (IsStep before after) steps s each i))
+  where
+    off : (s : Step) → IsStep before after s → is_on f s.a s.b s.c ≡ false
+    off s i = by i.gone
+      where
+        by : IsGone s.net before s.a s.b s.c ⊎ IsGone s.net after s.a s.b s.c → is_on f s.a s.b s.c ≡ false
+        by (inl g) = destroyed_law s.net before i.sheet sound_before s.a s.b s.c g f in_before
+        by (inr g) = destroyed_law s.net after i.sheet sound_after s.a s.b s.c g f in_after
+
+    all_of : (xs : List Step) → ((x : Step) → In x xs → is_on f x.a x.b x.c ≡ false) → All (λ s. is_on f s.a s.b s.c ≡ false) xs
+    all_of [] h = All-nil (λ s. is_on f s.a s.b s.c ≡ false)
+    all_of (x ∷ xs) h = All-cons (λ s. is_on f s.a s.b s.c ≡ false) x xs (h x (inl refl)) (all_of xs (λ y i. h y (inr i)))
 
 pub sheet-sound : (net : Net) → IsSheet net → IsSound net
 sheet-sound net sheet = let site = sheet-site net sheet in record { places = site.places; joined = site.ends; even = site.even }
 
 pub flip_law : FlipLaw
 flip_law net sheet a b c d illegal f e =
-    destroyed_law net net sheet (sheet-sound net sheet) (record { points = λ p h. h; pieces = λ p q h. h }) a b c d illegal f e
+    (destroyed_law net net sheet sound a b c (Flipped d illegal fewer) f e, destroyed_law net net sheet sound b a d (FlippedBehind c illegal fewer) f e)
+  where
+    sound : IsSound net
+    sound = sheet-sound net sheet
+
+    fewer : HasFewerPieces net net
+    fewer = record { points = λ p h. h; pieces = λ p q h. h }

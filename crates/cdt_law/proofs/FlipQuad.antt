@@ -1,28 +1,27 @@
 -- The quadrilateral of a flip: two triangles of a sheet over one edge, and the two that take their place.
-use Rattle.std.proofs.Common.{◌≡◌, ℕ, zero, suc, ◌+◌, ◌<◌, ◌⊎◌, inl, inr, refl, sym, ap, subst, ◌∙◌, arith, [], ◌∷◌, Bool, true, false}
-use Rattle.std.specs.Prelude.{ℤ, pos, neg_ℤ, ◌+ℤ◌, ◌*ℤ◌, ◌<ℤ◌, ◌≤ℤ◌, int_lt, not, ◌&&◌, Some, slice_get}
+use Rattle.std.proofs.Common.{◌≡◌, ℕ, zero, suc, ◌+◌, ◌<◌, ◌⊎◌, inl, inr, refl, sym, ap, subst, arith, [], ◌∷◌, true}
+use Rattle.std.specs.Prelude.{ℤ, pos, neg_ℤ, ◌+ℤ◌, ◌*ℤ◌, ◌<ℤ◌, ◌≤ℤ◌, Some, slice_get}
 use Rattle.std.proofs.lemmas.Int.{ints, by_lt_z}
-use Rattle.std.proofs.lemmas.Bool.{and_parts}
 use Rattle.ground_model.specs.declared.corner.Corner.{Corner}
 use Rattle.ground_model.specs.declared.corner.Corner.TheVariants.{At, Far}
 use Rattle.ground_model.specs.Place.{Coords}
 use Rattle.ground_model.specs.Side.{side}
 use Rattle.ground_model.specs.Line.{is_point}
 use Rattle.ground_model.specs.Corner.{corner_at, corner_side}
-use Rattle.ground_model.proofs.Ring.{var, ◌⊕◌, ◌⊗◌, ring}
+use Rattle.ground_model.proofs.Ring.{◌⊕◌, ◌⊗◌, ring}
 use Rattle.ground_model.proofs.Circle.{sideE, side-turned}
-use Rattle.predicates.specs.Net.{Net, Triangle, Edge, edges_in, rim, times_in, is_same_edge, is_beyond, covers}
-use Rattle.predicates.specs.Sheet.{IsSheet, rimmed}
-use Rattle.predicates.proofs.Signs.{mul-nonneg, mul-negative, never-level, never-low, never-high, positive-along, positive-neg, negative-neg, weaken}
-use Rattle.predicates.proofs.FlatSides.{flat_ab, flat_bc, flat_ca, side-back}
+use Rattle.predicates.specs.Net.{Net, Triangle, Edge, edges_in, rim, times_in, is_same_edge}
+use Rattle.predicates.specs.Sheet.{IsSheet}
+use Rattle.predicates.proofs.Signs.{mul-nonneg, mul-negative, never-high, positive-along, positive-neg, negative-neg, weaken}
+use Rattle.predicates.proofs.FlatSides.{side-back}
 use Rattle.predicates.proofs.Edges.{edge-tells}
 use Rattle.predicates.proofs.Valid.{IsValid}
 use Rattle.predicates.proofs.FarTriangle.{outer-nonneg, outer01, outer12, outer20, sheet-valid}
 use Rattle.predicates.proofs.Tiling.{left-of}
 use Rattle.predicates.proofs.CrossedEdges.{Crosses}
-use Rattle.predicates.proofs.Owners.{IsTurn, Still, Once, Twice, Owner, owner, turn-side, some_of_three, IsFarEdge, From0, From1, From2}
+use Rattle.predicates.proofs.Owners.{IsTurn, owner, turn-side, some_of_three, IsFarEdge, From0, From1, From2}
 use Rattle.predicates.proofs.NeverCross.{uncrossed}
-use Rattle.cdt_law.proofs.Walk.{turn-next, turn-valid}
+use Rattle.cdt_law.proofs.Walk.{turn-valid}
 use Rattle.cdt_law.proofs.GoodInSheet.{sheet-only}
 
 -- ---- the quadrilateral

@@ -10,14 +10,13 @@ use Rattle.predicates.proofs.Signs.{never-level, positive-along, negative-neg}
 use Rattle.predicates.proofs.FlatSides.{flat_ab, flat_bc, flat_ca, side-back}
 use Rattle.predicates.proofs.Heights.{lift, deep}
 use Rattle.predicates.proofs.InsideDepths.{inside-deep}
-use Rattle.predicates.proofs.OneEdgeBeyond.{Leans, beyond_ab-bc, beyond_ab-ca}
+use Rattle.predicates.proofs.OneEdgeBeyond.{beyond_ab-bc, beyond_ab-ca}
 use Rattle.predicates.proofs.PlanesBelow.{leans, lean_e, lean_n}
-use Rattle.predicates.proofs.Valid.{IsValid}
 use Rattle.predicates.proofs.FarTriangle.{sheet-valid}
 use Rattle.predicates.proofs.Tiling.{left-of}
 use Rattle.predicates.proofs.Owners.{IsTurn, Owner, turn-side}
 use Rattle.predicates.proofs.HasTriangles.{HasOwner, has-owner}
-use Rattle.cdt_law.specs.Flips.{IsIllegal, IsFlip, FallLaw}
+use Rattle.cdt_law.specs.Flips.{IsIllegal, FallLaw}
 use Rattle.cdt_law.proofs.Walk.{AllValid, turn-valid}
 use Rattle.cdt_law.proofs.FlipKept.{flip-sheet}
 use Rattle.cdt_law.proofs.FlipFalls.{sum-falls}

@@ -24,9 +24,9 @@ pub mod CommonEdge
 pub mod FacetsOnce
 -- flips
 pub mod NoWallOver
-pub mod FlipLaws
-pub mod Exchanged
-pub mod FlipFalls
 pub mod FlipQuad
+pub mod Exchanged
 pub mod FlipKept
+pub mod FlipFalls
 pub mod IllegalEdge
+pub mod FlipLaws

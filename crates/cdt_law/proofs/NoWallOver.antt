@@ -1,22 +1,21 @@
 -- No good triangle lies over an edge of a sheet that is illegal: the wall that it would need crosses the sheet's triangle.
-use Rattle.std.proofs.Common.{◌≡◌, ℕ, ◌+◌, ◌<◌, ◌⊎◌, inl, inr, refl, sym, ap, subst, ◌∙◌, arith, [], ◌∷◌, true}
+use Rattle.std.proofs.Common.{◌≡◌, ℕ, ◌+◌, ◌<◌, ◌⊎◌, inl, inr, refl, sym, ap, ◌∙◌, arith, [], ◌∷◌, true}
 use Rattle.std.specs.Prelude.{ℤ, pos, ◌+ℤ◌, ◌-ℤ◌, ◌*ℤ◌, ◌<ℤ◌, ◌≤ℤ◌, unsigned_abs, slice_get, Some, negsuc, List}
 use Rattle.std.proofs.lemmas.Int.{ints, by_lt_z}
-use Rattle.ground_model.specs.declared.corner.Corner.{Corner}
 use Rattle.ground_model.specs.declared.corner.Corner.TheVariants.{At}
 use Rattle.ground_model.specs.Place.{Coords}
 use Rattle.ground_model.specs.Side.{side}
 use Rattle.ground_model.specs.Line.{is_point}
-use Rattle.ground_model.specs.Corner.{corner_at, corner_side}
+use Rattle.ground_model.specs.Corner.{corner_at}
 use Rattle.ground_model.proofs.Ring.{Expr, var, num, ◌⊕◌, ◌⊖◌, ◌⊗◌, ring}
 use Rattle.ground_model.proofs.ZLaws.{mul_comm}
 use Rattle.ground_model.proofs.ZOrder.{mul-positive}
 use Rattle.ground_model.proofs.Circle.{sideE, side-turned}
-use Rattle.predicates.specs.Net.{Net, Triangle, count_of}
+use Rattle.predicates.specs.Net.{Net, Triangle}
 use Rattle.predicates.specs.Sheet.{IsSheet}
 use Rattle.predicates.specs.Weighted.{Weighted, weighted_side, once, joined, repeated}
-use Rattle.predicates.proofs.Signs.{mul-nonneg, mul-mixed, mul-negative, level-up, level-down, never-level, never-flat, never-low, positive-along, positive-neg, negative-neg, weaken, weaken-neg}
-use Rattle.predicates.proofs.FlatSides.{flat_ab, flat_bc, flat_ca, side-back}
+use Rattle.predicates.proofs.Signs.{mul-nonneg, mul-mixed, mul-negative, level-up, level-down, never-level, positive-along, positive-neg, negative-neg, weaken}
+use Rattle.predicates.proofs.FlatSides.{flat_bc, flat_ca, side-back}
 use Rattle.predicates.proofs.WeightedSides.{pointE, placeE}
 use Rattle.predicates.proofs.Nudged.{Inside}
 use Rattle.predicates.proofs.CrossedEdges.{Crosses}
@@ -25,7 +24,7 @@ use Rattle.predicates.proofs.Tiling.{left-of}
 use Rattle.predicates.proofs.FourApart.{times-zero}
 use Rattle.cdt_law.proofs.Walls.{Walls}
 use Rattle.cdt_law.proofs.CleanTriangle.{OnlyCorner, Parts, clean}
-use Rattle.cdt_law.proofs.GoodTriangle.{Site, IsSite, IsGood, WallAt}
+use Rattle.cdt_law.proofs.GoodTriangle.{IsSite}
 use Rattle.cdt_law.proofs.Walk.{turn-next}
 use Rattle.cdt_law.proofs.GoodInSheet.{site_of, sheet-site, sheet-free, sheet-only}
 

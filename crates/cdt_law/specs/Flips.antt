@@ -1,5 +1,5 @@
 -- Flips of edges, and which facets they destroy.
-use Rattle.std.specs.Prelude.{ℕ, ◌≡◌, ◌<◌, ◌^◌, true, false, Bool, ℤ, pos, ◌+ℤ◌, ◌*ℤ◌, unsigned_abs, Some, slice_get, slice_set}
+use Rattle.std.specs.Prelude.{ℕ, ◌≡◌, ◌⊎◌, ◌<◌, ◌^◌, List, true, false, Bool, ℤ, pos, ◌+ℤ◌, ◌*ℤ◌, unsigned_abs, Some, slice_get, slice_set}
 use Rattle.std.specs.List.{All}
 use Rattle.ground_model.specs.declared.corner.Corner.{Corner}
 use Rattle.ground_model.specs.declared.corner.Corner.TheVariants.{At, Far}
@@ -7,11 +7,12 @@ use Rattle.ground_model.specs.declared.facet.Facet.{Facet}
 use Rattle.ground_model.specs.Place.{Coords, IsPlace}
 use Rattle.ground_model.specs.Line.{is_point}
 use Rattle.ground_model.specs.Height.{base, top, height}
-use Rattle.ground_model.specs.Corner.{corner_side, far_height, is_corner_inside}
+use Rattle.ground_model.specs.Side.{crosses}
+use Rattle.ground_model.specs.Corner.{corner_at, corner_side, far_height, is_corner_inside}
 use Rattle.ground_model.specs.Mark.{is_among}
 use Rattle.predicates.specs.Sums.{total}
-use Rattle.predicates.specs.Net.{Net, Triangle, has, is_triangle, is_turned, count_of, tri_of}
-use Rattle.predicates.specs.Sheet.{IsSheet}
+use Rattle.predicates.specs.Net.{Net, Triangle, has, is_triangle, is_turned, count_of, covers, has_corner, tri_of}
+use Rattle.predicates.specs.Sheet.{IsSheet, is_over}
 use Rattle.cdt_law.specs.Laws.{AreOverOne}
 
 -- the points are places, and pieces join points, with one count in both directions
@@ -36,10 +37,40 @@ pub record HasFewerPieces (other net : Net) : Type 0 where
 abbrev pub is_on : Facet → Corner → Corner → Corner → Bool
 is_on f a b c = is_triangle a b c (record { a = At f.a; b = At f.b; c = At f.c })
 
--- the flip of an illegal edge destroys no facet of a net within
+-- why the triangle a, b, c, taken out of a sheet, is no facet of the other net
+pub data IsGone (net other : Net) (a b c : Corner) : Type 0 where
+  -- it was flipped over its edge ab, which is illegal, and the other net has no pieces but the sheet's
+  Flipped : (d : Corner) → IsIllegal net a b c d → HasFewerPieces other net → IsGone net other a b c
+  -- the same, seen from the triangle on the other side of the edge
+  FlippedBehind : (d : Corner) → IsIllegal net b a d c → HasFewerPieces other net → IsGone net other a b c
+  -- a piece of the other net crosses its edge ab
+  Crossed : (p q : Coords) → 0 < other.count p q → crosses (corner_at a) (corner_at b) p q ≡ true → IsGone net other a b c
+  -- its corner a is no point of the other net
+  Without : is_over other.points a ≡ false → IsGone net other a b c
+  -- it has a point of the other net that is none of its corners
+  Covering : (p : Coords) → is_point other.points p ≡ true → covers (record { a = a; b = b; c = c }) p ≡ true → has_corner (record { a = a; b = b; c = c }) (At p) ≡ false → IsGone net other a b c
+
+-- a triangle that is gone is no facet of the other net
 abbrev pub DestroyedLaw : Type 0
-DestroyedLaw = (net other : Net) → IsSheet net → IsSound other → HasFewerPieces other net → (a b c d : Corner) → IsIllegal net a b c d
-    → (f : Facet) → is_among (tri_of other) f ≡ true → (is_on f a b c ≡ false) × (is_on f b a d ≡ false)
+DestroyedLaw = (net other : Net) → IsSheet net → IsSound other → (a b c : Corner) → IsGone net other a b c
+    → (f : Facet) → is_among (tri_of other) f ≡ true → is_on f a b c ≡ false
+
+-- a triangle that an edit takes out of one of its sheets
+pub record Step : Type 0 where
+  pub net : Net
+  pub a : Corner
+  pub b : Corner
+  pub c : Corner
+
+-- it is no facet of the net before the edit, or none of the net after it
+pub record IsStep (before after : Net) (s : Step) : Type 0 where
+  pub sheet : IsSheet s.net
+  pub gone : IsGone s.net before s.a s.b s.c ⊎ IsGone s.net after s.a s.b s.c
+
+-- a facet of before that an edit takes out is no facet of after
+abbrev pub EditLaw : Type 0
+EditLaw = (before after : Net) → IsSound before → IsSound after → (steps : List Step) → All (IsStep before after) steps
+    → (f : Facet) → is_among (tri_of before) f ≡ true → is_among (tri_of after) f ≡ true → All (λ s. is_on f s.a s.b s.c ≡ false) steps
 
 -- the flip of an illegal edge destroys no facet of the sheet's own points and pieces
 abbrev pub FlipLaw : Type 0

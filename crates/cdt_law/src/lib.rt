@@ -1,8 +1,8 @@
 //! Laws of sheets, the triangulations of a mesh that reaches to the far corners: a sheet tiles, and a locally Delaunay one
-//! is the constrained Delaunay triangulation, of which there is only one. It never asks how a sheet is kept or made.
+//! is the constrained Delaunay triangulation, of which there is only one; and laws of flips. It never asks how a sheet is kept.
 #![tactic(auto)]
 
-ghost use Rattle.cdt_law.specs.Flips.{DestroyedLaw, FallLaw, FlipLaw, KeptLaw};
+ghost use Rattle.cdt_law.specs.Flips.{DestroyedLaw, EditLaw, FallLaw, FlipLaw, KeptLaw};
 ghost use Rattle.cdt_law.specs.Laws.{EdgeLaw, FacetLaw, FirstLaw, LocalLaw, NetLaw, OnceLaw, UniqueLaw};
 
 /// The triangle of the far corners alone is a locally Delaunay sheet of no points: the laws below are about something.
@@ -48,10 +48,17 @@ pub fn flip_law()
     ensures { FlipLaw }
 {}
 
-/// Such a flip destroys no facet of any net that has the sheet's points and no pieces but those of the sheet: the net
-/// before a line was added, or the one after a line was taken away.
+/// A triangle taken out of a sheet is no facet of another net, for one of five reasons: such a flip took it out, from
+/// either side, and the other net has no pieces but those of the sheet; a piece of the other net crosses it; its corner is
+/// no point there; or it has a point there. Each kind of edit has its reasons among these.
 pub fn destroyed_law()
     ensures { DestroyedLaw }
+{}
+
+/// What an edit takes out of one of its sheets is not both a facet before and after: a facet that stays is never taken
+/// out. The sheets between the pieces of a line are those of no content.
+pub fn edit_law()
+    ensures { EditLaw }
 {}
 
 /// A flip within a strictly convex quadrilateral, of an edge that is no piece, keeps a sheet.
