@@ -1,9 +1,7 @@
 -- A list with an item exchanged: its items, its tests and its sums.
-use Rattle.std.proofs.Common.{◌≡◌, ℕ, zero, suc, ◌⊎◌, inl, inr, refl, sym, ap, ◌∙◌, arith, List, [], ◌∷◌, Bool, true}
+use Rattle.std.proofs.Common.{◌≡◌, ℕ, zero, suc, ◌⊎◌, inl, inr, refl, sym, ap, ◌∙◌, arith, List, [], ◌∷◌}
 use Rattle.std.specs.Prelude.{ℤ, ◌+ℤ◌, Some, slice_get, slice_set}
-use Rattle.std.specs.List.{list_all}
 use Rattle.std.proofs.lemmas.Int.{ints}
-use Rattle.std.proofs.lemmas.Bool.{and_from}
 use Rattle.predicates.specs.Sums.{total}
 
 -- ---- its items
@@ -26,11 +24,6 @@ set-item (z ∷ zs) zero zero x y at = let same : y ≡ x = cc in inl same
 set-item (z ∷ zs) zero (suc j) x y at = inr at
 set-item (z ∷ zs) (suc k) zero x y at = inr at
 set-item (z ∷ zs) (suc k) (suc j) x y at = set-item zs k j x y at
-
--- ---- its tests
-pub passes-each : {X : Type 0} (p : X → Bool) (xs : List X) → ((k : ℕ) (x : X) → slice_get xs k ≡ Some x → p x ≡ true) → list_all p xs ≡ true
-passes-each p [] each = refl
-passes-each p (x ∷ xs) each = and_from (p x) (list_all p xs) (each zero x refl) (passes-each p xs (λ k y at. each (suc k) y at))
 
 -- ---- its sums
 pub total-set : {X : Type 0} (f : X → ℤ) (xs : List X) (k : ℕ) (t x : X) → slice_get xs k ≡ Some t → total f (slice_set xs k x) +ℤ f t ≡ total f xs +ℤ f x

@@ -3,32 +3,33 @@ use Rattle.std.proofs.Common.{◌≡◌, ℕ, ◌+◌, ◌<◌, ◌≤◌, ◌�
 use Rattle.std.specs.Prelude.{ℤ, pos, ◌+ℤ◌, ◌<ℤ◌, ◌≤ℤ◌, int_lt, not, ◌&&◌, ◌||◌, Some, slice_get, slice_set, cond, nat_eq}
 use Rattle.std.specs.List.{list_all, list_any}
 use Rattle.std.proofs.lemmas.Int.{ints}
-use Rattle.std.proofs.lemmas.Bool.{and_parts, and_from, or_left, or_right, eqb-true, eqb-false}
+use Rattle.std.proofs.lemmas.Bool.{and_from, eqb-true, eqb-false}
 use Rattle.std.proofs.lemmas.List.Sums.{sum_by-append}
 use Rattle.ground_model.specs.declared.corner.Corner.{Corner}
 use Rattle.ground_model.specs.declared.corner.Corner.TheVariants.{At}
 use Rattle.ground_model.specs.Place.{Coords, is_same}
 use Rattle.ground_model.specs.Line.{is_point}
-use Rattle.ground_model.specs.Corner.{corner_at, corner_side, is_same_corner}
+use Rattle.ground_model.specs.Corner.{corner_at, corner_side}
 use Rattle.ground_model.proofs.LinePieces.{is_same_itself}
 use Rattle.ground_model.proofs.Circle.{side-turned}
 use Rattle.predicates.specs.Sums.{total}
 use Rattle.predicates.specs.HalfOpen.{indicate}
-use Rattle.predicates.specs.Net.{Net, Triangle, Edge, edges_of, edges_in, rim, times_in, reversed, is_same_edge, is_turned, is_beyond, covers, has_corner, count_of}
+use Rattle.predicates.specs.Net.{Net, Triangle, Edge, edges_of, edges_in, rim, times_in, reversed, is_same_edge, is_turned, covers, has_corner, count_of}
 use Rattle.predicates.specs.Sheet.{IsSheet, rimmed, is_over, are_over}
 use Rattle.predicates.proofs.Signs.{never-level, positive-along}
 use Rattle.predicates.proofs.FlatSides.{flat_bc}
 use Rattle.predicates.proofs.Sums.{total-flat_map}
-use Rattle.predicates.proofs.Edges.{counted, edge-tells, edge-turned, corner-self}
+use Rattle.predicates.proofs.Edges.{counted, edge-tells, edge-turned}
 use Rattle.predicates.proofs.Tiling.{each-passes}
-use Rattle.predicates.proofs.Owners.{IsTurn, Still, Once, Twice}
+use Rattle.predicates.proofs.Owners.{IsTurn, Still, Once, Twice, turn-next}
 use Rattle.predicates.proofs.HasTriangles.{Found, any-found, any-at, turn-of}
+use Rattle.predicates.proofs.PointsApart.{InNet}
+use Rattle.predicates.proofs.Holding.{turn-held, turn-has_corner, must-corner, passes-each}
 use Rattle.cdt_law.specs.Flips.{IsFlip, KeptLaw}
-use Rattle.cdt_law.proofs.Walk.{turn-next}
 use Rattle.cdt_law.proofs.WalkSteps.{at-corner}
 use Rattle.cdt_law.proofs.GoodInSheet.{over-first}
-use Rattle.cdt_law.proofs.Exchanged.{get-set, get-set_other, set-item, passes-each, total-exchanged}
-use Rattle.cdt_law.proofs.FlipQuad.{InNet, Quad, quad-swapped, no_edge, no_rim, first-only}
+use Rattle.cdt_law.proofs.Exchanged.{get-set, get-set_other, set-item, total-exchanged}
+use Rattle.cdt_law.proofs.FlipQuad.{Quad, quad-swapped, no_edge, no_rim, first-only}
 
 -- ---- how often an edge occurs
 abbrev one : Edge → Corner → Corner → ℤ
@@ -215,38 +216,6 @@ turn-turned t a b c Still h = turned-test (corner_side t.a t.b t.c) h
 turn-turned t a b c Once h = turned-test (corner_side t.a t.b t.c) (positive-along (corner_side t.a t.b t.c) (corner_side t.b t.c t.a) (side-turned (corner_at t.a) (corner_at t.b) (corner_at t.c)) h)
 turn-turned t a b c Twice h = turned-test (corner_side t.a t.b t.c) (positive-along (corner_side t.a t.b t.c) (corner_side t.c t.a t.b) (sym (side-turned (corner_at t.c) (corner_at t.a) (corner_at t.b))) h)
 
-pub turn-has_corner : (t : Triangle) (a b c z : Corner) → IsTurn t a b c → (z ≡ a) ⊎ ((z ≡ b) ⊎ (z ≡ c)) → has_corner t z ≡ true
-turn-has_corner t a b c z turn at = by turn at
-  where
-    same : (y : Corner) → z ≡ y → is_same_corner y z ≡ true
-    same y e = ap (is_same_corner y) e ∙ corner-self y
-
-    at_a : z ≡ t.a → has_corner t z ≡ true
-    at_a e = or_left (is_same_corner t.a z || is_same_corner t.b z) (is_same_corner t.c z) (or_left (is_same_corner t.a z) (is_same_corner t.b z) (same t.a e))
-
-    at_b : z ≡ t.b → has_corner t z ≡ true
-    at_b e = or_left (is_same_corner t.a z || is_same_corner t.b z) (is_same_corner t.c z) (or_right (is_same_corner t.a z) (is_same_corner t.b z) (same t.b e))
-
-    at_c : z ≡ t.c → has_corner t z ≡ true
-    at_c e = or_right (is_same_corner t.a z || is_same_corner t.b z) (is_same_corner t.c z) (same t.c e)
-
-    three_at : (z ≡ t.a) ⊎ ((z ≡ t.b) ⊎ (z ≡ t.c)) → has_corner t z ≡ true
-    three_at (inl e) = at_a e
-    three_at (inr (inl e)) = at_b e
-    three_at (inr (inr e)) = at_c e
-
-    turned : (x y w : Corner) → IsTurn t x y w → (z ≡ x) ⊎ ((z ≡ y) ⊎ (z ≡ w)) → (z ≡ t.a) ⊎ ((z ≡ t.b) ⊎ (z ≡ t.c))
-    turned x y w Still h = h
-    turned x y w Once (inl e) = inr (inl e)
-    turned x y w Once (inr (inl e)) = inr (inr e)
-    turned x y w Once (inr (inr e)) = inl e
-    turned x y w Twice (inl e) = inr (inr e)
-    turned x y w Twice (inr (inl e)) = inl e
-    turned x y w Twice (inr (inr e)) = inr (inl e)
-
-    by : IsTurn t a b c → (z ≡ a) ⊎ ((z ≡ b) ⊎ (z ≡ c)) → has_corner t z ≡ true
-    by turn h = three_at (turned a b c turn h)
-
 -- ---- each point a corner
 exchange-reached : (net : Net) → IsSheet net → (a b c d : Corner) (x : Exchange net a b c d) (k : ℕ) (p : Coords) → slice_get net.points k ≡ Some p → list_any (λ t. has_corner t (At p)) (exchanged net a b c d x).triangles ≡ true
 exchange-reached net sheet a b c d x k p at = by (any-found (λ t. has_corner t (At p)) net.triangles (each-passes (λ y. list_any (λ t. has_corner t (At y)) net.triangles) net.points sheet.reached k p at))
@@ -281,48 +250,6 @@ exchange-reached net sheet a b c d x k p at = by (any-found (λ t. has_corner t 
         tests false false e g = any-at (λ t. has_corner t (At p)) (exchanged net a b c d x).triangles f.index f.item (other-at net a b c d x f.index f.item (eqb-false f.index x.left.index e) (eqb-false f.index x.right.index g) f.at) f.passes
 
 -- ---- no point in a triangle but its corners
-not_beyond : (s : ℤ) → not (int_lt s (pos 0)) ≡ true → pos 0 ≤ℤ s
-not_beyond s e = by (int_lt s (pos 0)) refl e
-  where
-    by : (t : Bool) → int_lt s (pos 0) ≡ t → not t ≡ true → pos 0 ≤ℤ s
-    by true f g = cc
-    by false f g = omega (arith, ints, sym f)
-
-pub record Held (a b c : Corner) (p : Coords) : Type 0 where
-  pub ab : pos 0 ≤ℤ corner_side a b (At p)
-  pub bc : pos 0 ≤ℤ corner_side b c (At p)
-  pub ca : pos 0 ≤ℤ corner_side c a (At p)
-
-pub turn-held : (t : Triangle) (a b c : Corner) (p : Coords) → IsTurn t a b c → covers t p ≡ true → Held a b c p
-turn-held t a b c p turn e = by a b c turn
-  where
-    outer : ((not (is_beyond t.a t.b p) && not (is_beyond t.b t.c p)) ≡ true) × (not (is_beyond t.c t.a p) ≡ true)
-    outer = and_parts (not (is_beyond t.a t.b p) && not (is_beyond t.b t.c p)) (not (is_beyond t.c t.a p)) e
-
-    inner : (not (is_beyond t.a t.b p) ≡ true) × (not (is_beyond t.b t.c p) ≡ true)
-    inner = and_parts (not (is_beyond t.a t.b p)) (not (is_beyond t.b t.c p)) outer.0
-
-    ab : pos 0 ≤ℤ corner_side t.a t.b (At p)
-    ab = not_beyond (corner_side t.a t.b (At p)) inner.0
-
-    bc : pos 0 ≤ℤ corner_side t.b t.c (At p)
-    bc = not_beyond (corner_side t.b t.c (At p)) inner.1
-
-    ca : pos 0 ≤ℤ corner_side t.c t.a (At p)
-    ca = not_beyond (corner_side t.c t.a (At p)) outer.1
-
-    by : (x y z : Corner) → IsTurn t x y z → Held x y z p
-    by x y z Still = record { ab = ab; bc = bc; ca = ca }
-    by x y z Once = record { ab = bc; bc = ca; ca = ab }
-    by x y z Twice = record { ab = ca; bc = ab; ca = bc }
-
-must-corner : (t : Triangle) (p : Coords) → (covers t p ≡ true → has_corner t (At p) ≡ true) → (not (covers t p) || has_corner t (At p)) ≡ true
-must-corner t p h = by (covers t p) refl
-  where
-    by : (s : Bool) → covers t p ≡ s → (not s || has_corner t (At p)) ≡ true
-    by true e = h e
-    by false e = refl
-
 exchange-apart : (net : Net) → IsSheet net → (a b c d : Corner) (x : Exchange net a b c d) → Quad net a b c d → (k : ℕ) (t : Triangle) → slice_get (exchanged net a b c d x).triangles k ≡ Some t
     → (j : ℕ) (p : Coords) → slice_get net.points j ≡ Some p → (not (covers t p) || has_corner t (At p)) ≡ true
 exchange-apart net sheet a b c d x q k t at j p at_p = by (item-of net a b c d x k t at)

@@ -30,10 +30,10 @@ use Rattle.predicates.proofs.FarTriangle.{sheet-valid, listed-place}
 use Rattle.predicates.proofs.Tiling.{left-of}
 use Rattle.predicates.proofs.CrossedEdges.{Crosses}
 use Rattle.predicates.proofs.NeverCross.{crosses-way}
-use Rattle.predicates.proofs.Owners.{IsTurn, Still, Once, Twice, Owner, turn-side}
+use Rattle.predicates.proofs.Owners.{IsTurn, Still, Once, Twice, Owner, turn-side, turn-next}
 use Rattle.predicates.proofs.HasTriangles.{has-owner, turn-of, HasOwner}
 use Rattle.cdt_law.specs.Flips.{IsSound, IsIllegal, HasFewerPieces, is_on, IsGone, Flipped, FlippedBehind, Crossed, Without, Covering, Step, IsStep, DestroyedLaw, EditLaw, FlipLaw}
-use Rattle.cdt_law.proofs.Walk.{turn-next, turn-valid}
+use Rattle.cdt_law.proofs.Walk.{turn-valid}
 use Rattle.cdt_law.proofs.GoodTriangle.{Site, IsGood, WallAt, good-turned}
 use Rattle.cdt_law.proofs.GoodInSheet.{site_of, sheet-site, over-first, below-point}
 use Rattle.cdt_law.proofs.OneTriangle.{PointAt}
@@ -42,7 +42,7 @@ use Rattle.cdt_law.proofs.GoodFacet.{site_by}
 use Rattle.cdt_law.proofs.SheetFacets.{IsFacetOf, tested-of}
 use Rattle.cdt_law.proofs.FacetLaws.{later_count}
 use Rattle.cdt_law.proofs.NoWallOver.{no_wall}
-use Rattle.cdt_law.proofs.FlipKept.{turn-held, turn-has_corner}
+use Rattle.predicates.proofs.Holding.{turn-held, turn-has_corner}
 
 -- ---- of the two triangles over an illegal edge none is good
 -- the points and pieces of the site are such of the net

@@ -1,37 +1,31 @@
 -- The quadrilateral of a flip: two triangles of a sheet over one edge, and the two that take their place.
-use Rattle.std.proofs.Common.{◌≡◌, ℕ, zero, suc, ◌+◌, ◌<◌, ◌⊎◌, inl, inr, refl, sym, ap, subst, arith, [], ◌∷◌, true}
-use Rattle.std.specs.Prelude.{ℤ, pos, neg_ℤ, ◌+ℤ◌, ◌*ℤ◌, ◌<ℤ◌, ◌≤ℤ◌, Some, slice_get}
+use Rattle.std.proofs.Common.{◌≡◌, ℕ, zero, suc, ◌⊎◌, inl, inr, refl, sym, ap, arith, [], ◌∷◌, true}
+use Rattle.std.specs.Prelude.{ℤ, pos, neg_ℤ, ◌+ℤ◌, ◌*ℤ◌, ◌<ℤ◌, ◌≤ℤ◌}
 use Rattle.std.proofs.lemmas.Int.{ints, by_lt_z}
 use Rattle.ground_model.specs.declared.corner.Corner.{Corner}
-use Rattle.ground_model.specs.declared.corner.Corner.TheVariants.{At, Far}
+use Rattle.ground_model.specs.declared.corner.Corner.TheVariants.{At}
 use Rattle.ground_model.specs.Place.{Coords}
 use Rattle.ground_model.specs.Side.{side}
 use Rattle.ground_model.specs.Line.{is_point}
 use Rattle.ground_model.specs.Corner.{corner_at, corner_side}
 use Rattle.ground_model.proofs.Ring.{◌⊕◌, ◌⊗◌, ring}
 use Rattle.ground_model.proofs.Circle.{sideE, side-turned}
-use Rattle.predicates.specs.Net.{Net, Triangle, Edge, edges_in, rim, times_in, is_same_edge}
+use Rattle.predicates.specs.Net.{Net, edges_in, rim, times_in}
 use Rattle.predicates.specs.Sheet.{IsSheet}
 use Rattle.predicates.proofs.Signs.{mul-nonneg, mul-negative, never-high, positive-along, positive-neg, negative-neg, weaken}
 use Rattle.predicates.proofs.FlatSides.{side-back}
-use Rattle.predicates.proofs.Edges.{edge-tells}
 use Rattle.predicates.proofs.Valid.{IsValid}
-use Rattle.predicates.proofs.FarTriangle.{outer-nonneg, outer01, outer12, outer20, sheet-valid}
+use Rattle.predicates.proofs.FarTriangle.{sheet-valid}
 use Rattle.predicates.proofs.Tiling.{left-of}
 use Rattle.predicates.proofs.CrossedEdges.{Crosses}
-use Rattle.predicates.proofs.Owners.{IsTurn, owner, turn-side, some_of_three, IsFarEdge, From0, From1, From2}
+use Rattle.predicates.proofs.Owners.{owner, turn-side}
 use Rattle.predicates.proofs.NeverCross.{uncrossed}
+use Rattle.predicates.proofs.OneEach.{rim-far, far-left}
+use Rattle.predicates.proofs.PointsApart.{InNet}
 use Rattle.cdt_law.proofs.Walk.{turn-valid}
 use Rattle.cdt_law.proofs.GoodInSheet.{sheet-only}
 
 -- ---- the quadrilateral
--- the net's triangle a, b, c
-pub record InNet (net : Net) (a b c : Corner) : Type 0 where
-  pub index : ℕ
-  pub triangle : Triangle
-  pub at : slice_get net.triangles index ≡ Some triangle
-  pub turn : IsTurn triangle a b c
-
 -- abc and bad are in the net, and c and d lie so that both angles at them are convex
 pub record Quad (net : Net) (a b c d : Corner) : Type 0 where
   pub left : InNet net a b c
@@ -69,26 +63,6 @@ crosses-dc net sheet a b c d q = record {
 }
 
 -- ---- dc is no edge of the sheet, and none of the rim
-rim-far : (x y : Corner) → 0 < times_in rim (x, y) → IsFarEdge y x
-rim-far x y some = by (some_of_three (is_same_edge (x, y) (Far 1, Far 0)) (is_same_edge (x, y) (Far 2, Far 1)) (is_same_edge (x, y) (Far 0, Far 2)) 0 (along (times_in rim (x, y)) some))
-  where
-    along : (n : ℕ) → 0 < n → 0 < n + 0
-    along n h = omega (arith, h)
-
-    far : (u v : Corner) → ◌≡◌ {A = Edge} (x, y) (u, v) → IsFarEdge v u → IsFarEdge y x
-    far u v e f = subst (λ (p : Edge). IsFarEdge p.1 p.0) (sym e) f
-
-    by : (is_same_edge (x, y) (Far 1, Far 0) ≡ true) ⊎ ((is_same_edge (x, y) (Far 2, Far 1) ≡ true) ⊎ ((is_same_edge (x, y) (Far 0, Far 2) ≡ true) ⊎ (0 < 0))) → IsFarEdge y x
-    by (inl e) = far (Far 1) (Far 0) (edge-tells.equal (x, y) (Far 1, Far 0) e) From0
-    by (inr (inl e)) = far (Far 2) (Far 1) (edge-tells.equal (x, y) (Far 2, Far 1) e) From1
-    by (inr (inr (inl e))) = far (Far 0) (Far 2) (edge-tells.equal (x, y) (Far 0, Far 2) e) From2
-    by (inr (inr (inr h))) = absurd (omega (arith, h))
-
-far-left : (x y z : Corner) → IsFarEdge x y → IsValid z → pos 0 ≤ℤ corner_side x y z
-far-left x y z From0 v = outer-nonneg (corner_at (Far 0)) (corner_at (Far 1)) (corner_at z) (outer01 z v)
-far-left x y z From1 v = outer-nonneg (corner_at (Far 1)) (corner_at (Far 2)) (corner_at z) (outer12 z v)
-far-left x y z From2 v = outer-nonneg (corner_at (Far 2)) (corner_at (Far 0)) (corner_at z) (outer20 z v)
-
 pub no_edge : (net : Net) → IsSheet net → (a b c d : Corner) → Quad net a b c d → times_in (edges_in net) (d, c) ≡ 0
 no_edge net sheet a b c d q = by (times_in (edges_in net) (d, c)) refl
   where

@@ -22,9 +22,9 @@ use Rattle.predicates.proofs.Cover.{covered, gathered-some}
 use Rattle.predicates.proofs.Nudged.{Inside, Shared, nudged, center, center-pq, center-qr, center-rp}
 use Rattle.predicates.proofs.Valid.{IsValid, Place, Far0, Far1, Far2}
 use Rattle.predicates.proofs.FarTriangle.{AreValid, sheet-valid, listed-place}
-use Rattle.predicates.proofs.Owners.{IsTurn, Still, Once, Twice, owner, turn-side}
+use Rattle.predicates.proofs.Owners.{IsTurn, Still, Once, Twice, owner, turn-side, turn-next}
 use Rattle.predicates.proofs.NeverCross.{uncrossed}
-use Rattle.cdt_law.proofs.Walk.{turn-next, turn-valid}
+use Rattle.cdt_law.proofs.Walk.{turn-valid}
 use Rattle.cdt_law.proofs.WalkSteps.{walled, at-corner}
 use Rattle.cdt_law.proofs.LocalLaw.{around}
 use Rattle.cdt_law.proofs.SheetTests.{sheet-clear}

@@ -19,13 +19,12 @@ use Rattle.predicates.proofs.FlatSides.{flat_bc, flat_ca, side-back}
 use Rattle.predicates.proofs.WeightedSides.{pointE, placeE}
 use Rattle.predicates.proofs.Nudged.{Inside}
 use Rattle.predicates.proofs.CrossedEdges.{Crosses}
-use Rattle.predicates.proofs.Owners.{IsTurn, Owner, owner, turn-side}
+use Rattle.predicates.proofs.Owners.{IsTurn, Owner, owner, turn-side, turn-next}
 use Rattle.predicates.proofs.Tiling.{left-of}
 use Rattle.predicates.proofs.FourApart.{times-zero}
 use Rattle.cdt_law.proofs.Walls.{Walls}
 use Rattle.cdt_law.proofs.CleanTriangle.{OnlyCorner, Parts, clean}
 use Rattle.cdt_law.proofs.GoodTriangle.{IsSite}
-use Rattle.cdt_law.proofs.Walk.{turn-next}
 use Rattle.cdt_law.proofs.GoodInSheet.{site_of, sheet-site, sheet-free, sheet-only}
 
 -- ---- a point near the edge ab, towards z: k times its middle, and z

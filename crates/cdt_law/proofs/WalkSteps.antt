@@ -14,7 +14,7 @@ use Rattle.predicates.proofs.Tiling.{left-of}
 use Rattle.predicates.proofs.FarSides.{far-side01, far-side12, far-side20}
 use Rattle.predicates.proofs.Valid.{IsValid, Place}
 use Rattle.predicates.proofs.FarTriangle.{sheet-valid}
-use Rattle.predicates.proofs.Owners.{IsTurn, Still, Once, Twice, Owner, turn-side, owner-behind, IsFarEdge, From0, From1, From2}
+use Rattle.predicates.proofs.Owners.{IsTurn, Still, Once, Twice, Owner, turn-side, owner-behind, IsFarEdge, From0, From1, From2, turn-next, owner-times}
 use Rattle.predicates.proofs.OneEdgeBeyond.{Leans, beyond_ab-bc, beyond_ab-ca}
 use Rattle.cdt_law.proofs.Walls.{Between, walls-between}
 use Rattle.cdt_law.proofs.Ranks.{count-falls}
@@ -22,7 +22,7 @@ use Rattle.predicates.proofs.HigherPlanes.{higher-after, depth-turned, planes-ne
 use Rattle.predicates.proofs.Heights.{lift, deep}
 use Rattle.predicates.proofs.PlanesBelow.{leans, lean_e, lean_n}
 use Rattle.predicates.proofs.NoFourInPlane.{not_flat}
-use Rattle.cdt_law.proofs.Walk.{Around, Walled, AllValid, turn-next, turn-depth, turn-of-side, turn-valid, owner-times, counted-wall}
+use Rattle.cdt_law.proofs.Walk.{Around, Walled, AllValid, turn-depth, turn-of-side, turn-valid, counted-wall}
 use Rattle.predicates.proofs.Signs.{negative-along, never-both, never-flat, never-level, positive-along}
 use Rattle.predicates.proofs.FlatSides.{flat_bc, flat_ca, positive-back, side-back}
 

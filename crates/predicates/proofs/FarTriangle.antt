@@ -14,13 +14,13 @@ use Rattle.ground_model.proofs.Elements.{any_gives, each_at}
 use Rattle.ground_model.proofs.Circle.{side-turned}
 use Rattle.ground_model.proofs.ZOrder.{mul-positive}
 use Rattle.predicates.specs.Net.{Net, Triangle}
-use Rattle.predicates.specs.Sheet.{IsSheet, is_over, are_over}
+use Rattle.predicates.specs.Sheet.{IsSheet, IsClosed, is_over, are_over}
 use Rattle.predicates.specs.Weighted.{Weighted, weighted_side}
 use Rattle.predicates.specs.Tiling.{IsInside, far_triangle, Packs}
 use Rattle.predicates.proofs.Signs.{mul-nonneg, mul-mixed, level-up, never-level, never-low, positive-along, weaken}
 use Rattle.predicates.proofs.WeightedSides.{weighted_side-mixed}
 use Rattle.predicates.proofs.FarSides.{f0, f1, f2, far-side01, far-side12, far-side20, far-turned}
-use Rattle.predicates.proofs.Tiling.{each-passes, left-of, packed_inside}
+use Rattle.predicates.proofs.Tiling.{each-passes, closed, closed-left, closed-packed}
 use Rattle.predicates.proofs.FlatSides.{flat_ab, flat_bc, flat_ca}
 use Rattle.predicates.proofs.Valid.{IsValid, Place, Far0, Far1, Far2}
 
@@ -103,12 +103,12 @@ listed-place ps all p e =
     let found = any_gives (is_same p) ps e in
     subst IsPlace (sym (same_of_is_same p found.0 found.2)) (each_at IsPlace ps found.0 all found.1)
 
-pub valid : (net : Net) → IsSheet net → (z : Corner) → is_over net.points z ≡ true → IsValid z
-valid net sheet (At p) e = Place p (listed-place net.points sheet.places p e)
-valid net sheet (Far zero) e = Far0
-valid net sheet (Far (suc zero)) e = Far1
-valid net sheet (Far (suc (suc zero))) e = Far2
-valid net sheet (Far (suc (suc (suc k)))) e = absurd (beyond k (ltb-true (suc (suc (suc k))) 3 e))
+pub closed-corner : (net : Net) → IsClosed net → (z : Corner) → is_over net.points z ≡ true → IsValid z
+closed-corner net closed (At p) e = Place p (listed-place net.points closed.places p e)
+closed-corner net closed (Far zero) e = Far0
+closed-corner net closed (Far (suc zero)) e = Far1
+closed-corner net closed (Far (suc (suc zero))) e = Far2
+closed-corner net closed (Far (suc (suc (suc k)))) e = absurd (beyond k (ltb-true (suc (suc (suc k))) 3 e))
   where
     beyond : (k : ℕ) → suc (suc (suc k)) < 3 → ⊥
     beyond k h = omega (arith, h)
@@ -118,24 +118,33 @@ pub record AreValid (t : Triangle) : Type 0 where
   pub b : IsValid t.b
   pub c : IsValid t.c
 
-pub sheet-valid : (net : Net) → IsSheet net → (k : ℕ) (t : Triangle) → slice_get net.triangles k ≡ Some t → AreValid t
-sheet-valid net sheet k t at =
-    let over = each-passes (are_over net.points) net.triangles sheet.over k t at in
+pub closed-valid : (net : Net) → IsClosed net → (k : ℕ) (t : Triangle) → slice_get net.triangles k ≡ Some t → AreValid t
+closed-valid net closed k t at =
+    let over = each-passes (are_over net.points) net.triangles closed.over k t at in
     let front = and_parts (is_over net.points t.a && is_over net.points t.b) (is_over net.points t.c) over in
     let first = and_parts (is_over net.points t.a) (is_over net.points t.b) front.0 in
-    record { a = valid net sheet t.a first.0; b = valid net sheet t.b first.1; c = valid net sheet t.c front.1 }
+    record { a = closed-corner net closed t.a first.0; b = closed-corner net closed t.b first.1; c = closed-corner net closed t.c front.1 }
 
 -- strictly inside a triangle of the sheet is strictly inside the far triangle
-pub inside-far : (net : Net) → IsSheet net → (k : ℕ) (t : Triangle) → slice_get net.triangles k ≡ Some t → (x : Weighted) → IsInside t x → IsInside far_triangle x
-inside-far net sheet k t at x h =
-    let v = sheet-valid net sheet k t at in
-    let turned = left-of net sheet k t at in
+pub closed-far : (net : Net) → IsClosed net → (k : ℕ) (t : Triangle) → slice_get net.triangles k ≡ Some t → (x : Weighted) → IsInside t x → IsInside far_triangle x
+closed-far net closed k t at x h =
+    let v = closed-valid net closed k t at in
+    let turned = closed-left net closed k t at in
     record {
       ab = mixed-left f0 f1 (corner_at t.a) (corner_at t.b) (corner_at t.c) x turned h.bc h.ca h.ab (outer01 t.a v.a) (outer01 t.b v.b) (outer01 t.c v.c);
       bc = mixed-left f1 f2 (corner_at t.a) (corner_at t.b) (corner_at t.c) x turned h.bc h.ca h.ab (outer12 t.a v.a) (outer12 t.b v.b) (outer12 t.c v.c);
       ca = mixed-left f2 f0 (corner_at t.a) (corner_at t.b) (corner_at t.c) x turned h.bc h.ca h.ab (outer20 t.a v.a) (outer20 t.b v.b) (outer20 t.c v.c);
     }
 
+-- no weighted point lies strictly inside two triangles
+pub closed-packs : (net : Net) → IsClosed net → (x : Weighted) → pos 0 <ℤ x.weight
+    → (j k : ℕ) (t u : Triangle) → slice_get net.triangles j ≡ Some t → slice_get net.triangles k ≡ Some u → IsInside t x → IsInside u x → j ≡ k
+closed-packs net closed x some j k t u at_t at_u in_t in_u =
+    closed-packed net closed x some (closed-far net closed j t at_t x in_t) j k t u at_t at_u in_t in_u
+
+-- ---- a sheet is closed
+pub sheet-valid : (net : Net) → IsSheet net → (k : ℕ) (t : Triangle) → slice_get net.triangles k ≡ Some t → AreValid t
+sheet-valid net sheet = closed-valid net (closed net sheet)
+
 pub packed : Packs
-packed net sheet x some j k t u at_t at_u in_t in_u =
-    packed_inside net sheet x some (inside-far net sheet j t at_t x in_t) j k t u at_t at_u in_t in_u
+packed net sheet = closed-packs net (closed net sheet)

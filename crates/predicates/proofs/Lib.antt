@@ -45,3 +45,7 @@ pub mod Owners
 pub mod NeverCross
 pub mod HasTriangles
 pub mod OneOwner
+pub mod OneEach
+pub mod PointsApart
+pub mod Holding
+pub mod ClosedLaw

@@ -8,9 +8,10 @@ use Rattle.ground_model.specs.declared.corner.Corner.TheVariants.{Far}
 use Rattle.ground_model.specs.Corner.{corner_at, corner_side}
 use Rattle.ground_model.proofs.Circle.{side-turned}
 use Rattle.predicates.specs.Net.{Net, Triangle, Edge, edges_of, edges_in, is_same_edge, times_in, rim}
-use Rattle.predicates.specs.Sheet.{IsSheet, rimmed}
+use Rattle.predicates.specs.Sheet.{IsSheet, rimmed, IsClosed}
 use Rattle.predicates.specs.Weighted.{Weighted}
 use Rattle.predicates.specs.Tiling.{IsInside}
+use Rattle.predicates.proofs.Tiling.{closed}
 use Rattle.predicates.proofs.Edges.{edge-tells}
 use Rattle.predicates.proofs.Nudged.{Inside}
 
@@ -35,6 +36,12 @@ pub turn-inside : (t : Triangle) (a b c : Corner) (x : Weighted) → IsTurn t a 
 turn-inside t a b c x Still h = record { ab = h.ab; bc = h.bc; ca = h.ca }
 turn-inside t a b c x Once h = record { ab = h.ca; bc = h.ab; ca = h.bc }
 turn-inside t a b c x Twice h = record { ab = h.bc; bc = h.ca; ca = h.ab }
+
+-- a turn further
+pub turn-next : (t : Triangle) (a b c : Corner) → IsTurn t a b c → IsTurn t b c a
+turn-next t a b c Still = Once
+turn-next t a b c Once = Twice
+turn-next t a b c Twice = Still
 
 -- of two turns of one triangle the second begins where the first does, or where it goes on, or goes on where it begins
 pub turns-meet : (t : Triangle) (a b c u v w : Corner) → IsTurn t a b c → IsTurn t u v w → (u ≡ a) ⊎ ((u ≡ b) ⊎ (v ≡ a))
@@ -90,6 +97,40 @@ owner_in (t ∷ ts) a b h = by (some_of_three (is_same_edge (a, b) (t.a, t.b)) (
 pub owner : (net : Net) (a b : Corner) → 0 < times_in (edges_in net) (a, b) → Owner net.triangles a b
 owner net a b h = owner_in net.triangles a b h
 
+-- an owner's edge occurs
+pub owner-times : (ts : List Triangle) (t : Triangle) (k : ℕ) (a b c : Corner) → slice_get ts k ≡ Some t → IsTurn t a b c → 0 < count_by (is_same_edge (a, b)) (flat_map edges_of ts)
+owner-times [] t k a b c at turn = cc
+owner-times (x ∷ ts) t zero a b c at turn =
+    let same : x ≡ t = cc in
+    more (count_by (is_same_edge (a, b)) (edges_of x ++ flat_map edges_of ts)) (count_by (is_same_edge (a, b)) (edges_of x)) (count_by (is_same_edge (a, b)) (flat_map edges_of ts))
+    (sum_by-append (λ y. cond (is_same_edge (a, b) y) 1 0) (edges_of x) (flat_map edges_of ts)) (here x a b c (subst (λ (s : Triangle). IsTurn s a b c) (sym same) turn))
+  where
+    more : (m n r : ℕ) → m ≡ n + r → 0 < n → 0 < m
+    more m n r e h = omega (arith, e, h)
+
+    first : (x y z : Bool) → x ≡ true → 0 < 0 + cond x 1 0 + cond y 1 0 + cond z 1 0
+    first true y z e = omega arith
+    first false y z e = cc
+
+    second : (x y z : Bool) → y ≡ true → 0 < 0 + cond x 1 0 + cond y 1 0 + cond z 1 0
+    second x true z e = omega arith
+    second x false z e = cc
+
+    third : (x y z : Bool) → z ≡ true → 0 < 0 + cond x 1 0 + cond y 1 0 + cond z 1 0
+    third x y true e = omega arith
+    third x y false e = cc
+
+    here : (x : Triangle) (a b c : Corner) → IsTurn x a b c → 0 < count_by (is_same_edge (a, b)) (edges_of x)
+    here x a b c Still = first (is_same_edge (x.a, x.b) (x.a, x.b)) (is_same_edge (x.a, x.b) (x.b, x.c)) (is_same_edge (x.a, x.b) (x.c, x.a)) (edge-tells.self (x.a, x.b))
+    here x a b c Once = second (is_same_edge (x.b, x.c) (x.a, x.b)) (is_same_edge (x.b, x.c) (x.b, x.c)) (is_same_edge (x.b, x.c) (x.c, x.a)) (edge-tells.self (x.b, x.c))
+    here x a b c Twice = third (is_same_edge (x.c, x.a) (x.a, x.b)) (is_same_edge (x.c, x.a) (x.b, x.c)) (is_same_edge (x.c, x.a) (x.c, x.a)) (edge-tells.self (x.c, x.a))
+owner-times (x ∷ ts) t (suc k) a b c at turn =
+    more (count_by (is_same_edge (a, b)) (edges_of x ++ flat_map edges_of ts)) (count_by (is_same_edge (a, b)) (edges_of x)) (count_by (is_same_edge (a, b)) (flat_map edges_of ts))
+    (sum_by-append (λ y. cond (is_same_edge (a, b) y) 1 0) (edges_of x) (flat_map edges_of ts)) (owner-times ts t k a b c at turn)
+  where
+    more : (m n r : ℕ) → m ≡ n + r → 0 < r → 0 < m
+    more m n r e h = omega (arith, e, h)
+
 -- an edge from one far corner to the next
 pub data IsFarEdge : Corner → Corner → Type 0 where
   From0 : IsFarEdge (Far 0) (Far 1)
@@ -97,8 +138,8 @@ pub data IsFarEdge : Corner → Corner → Type 0 where
   From2 : IsFarEdge (Far 2) (Far 0)
 
 -- an edge of a triangle is also the reverse of one, or is one of the far triangle
-pub owner-behind : (net : Net) → IsSheet net → (a b : Corner) → 0 < times_in (edges_in net) (a, b) → Owner net.triangles b a ⊎ IsFarEdge a b
-owner-behind net sheet a b h =
+pub closed-behind : (net : Net) → IsClosed net → (a b : Corner) → 0 < times_in (edges_in net) (a, b) → Owner net.triangles b a ⊎ IsFarEdge a b
+closed-behind net closed a b h =
     by (some_of_three (is_same_edge (b, a) (Far 1, Far 0)) (is_same_edge (b, a) (Far 2, Far 1)) (is_same_edge (b, a) (Far 0, Far 2)) (times_in (edges_in net) (b, a)) there)
   where
     parts : (x : Edge) → times_in (rimmed net) x ≡ times_in (edges_in net) x + times_in rim x
@@ -108,7 +149,7 @@ owner-behind net sheet a b h =
     more m n m' n' r r' e f g h = omega (arith, e, f, g, h)
 
     there : 0 < times_in rim (b, a) + times_in (edges_in net) (b, a)
-    there = more (times_in (rimmed net) (a, b)) (times_in (edges_in net) (a, b)) (times_in (rimmed net) (b, a)) (times_in (edges_in net) (b, a)) (times_in rim (a, b)) (times_in rim (b, a)) (parts (a, b)) (parts (b, a)) (sheet.matched (a, b)) h
+    there = more (times_in (rimmed net) (a, b)) (times_in (edges_in net) (a, b)) (times_in (rimmed net) (b, a)) (times_in (edges_in net) (b, a)) (times_in rim (a, b)) (times_in rim (b, a)) (parts (a, b)) (parts (b, a)) (closed.matched (a, b)) h
 
     far : (x y : Corner) → ◌≡◌ {A = Edge} (b, a) (y, x) → IsFarEdge x y → IsFarEdge a b
     far x y e f = subst (λ (p : Edge). IsFarEdge p.1 p.0) (sym e) f
@@ -118,3 +159,6 @@ owner-behind net sheet a b h =
     by (inr (inl e)) = inr (far (Far 1) (Far 2) (edge-tells.equal (b, a) (Far 2, Far 1) e) From1)
     by (inr (inr (inl e))) = inr (far (Far 2) (Far 0) (edge-tells.equal (b, a) (Far 0, Far 2) e) From2)
     by (inr (inr (inr n))) = inl (owner net b a n)
+
+pub owner-behind : (net : Net) → IsSheet net → (a b : Corner) → 0 < times_in (edges_in net) (a, b) → Owner net.triangles b a ⊎ IsFarEdge a b
+owner-behind net sheet = closed-behind net (closed net sheet)

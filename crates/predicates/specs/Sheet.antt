@@ -20,6 +20,13 @@ are_over points t = is_over points t.a && is_over points t.b && is_over points t
 abbrev pub rimmed : Net → List Edge
 rimmed net = edges_in net ++ rim
 
+-- the triangles are counterclockwise, over places and far corners, and with the rim each edge occurs as often as its reverse
+pub record IsClosed (net : Net) : Type 0 where
+  pub places : All IsPlace net.points
+  pub over : list_all (are_over net.points) net.triangles ≡ true
+  pub turned : list_all is_turned net.triangles ≡ true
+  pub matched : (x : Edge) → times_in (rimmed net) x ≡ times_in (rimmed net) (reversed x)
+
 -- the triangles are a triangulation of the far triangle, with the points as its vertices and the pieces among its edges
 pub record IsSheet (net : Net) : Type 0 where
   -- the points are places

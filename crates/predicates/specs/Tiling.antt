@@ -1,13 +1,13 @@
 -- The triangles of a sheet fill the far corners' triangle, and no two of them overlap.
 use Rattle.std.specs.Prelude.{List, ◌∷◌, ◌≡◌, ℕ, ◌<◌, true, false, pos, ◌<ℤ◌, ◌≤ℤ◌, Some, slice_get}
-use Rattle.std.specs.List.{All}
+use Rattle.std.specs.List.{All, list_all, list_any}
 use Rattle.ground_model.specs.declared.corner.Corner.{Corner}
-use Rattle.ground_model.specs.declared.corner.Corner.TheVariants.{Far}
+use Rattle.ground_model.specs.declared.corner.Corner.TheVariants.{At, Far}
 use Rattle.ground_model.specs.Place.{Coords, IsPlace}
 use Rattle.ground_model.specs.Side.{crosses}
 use Rattle.ground_model.specs.Corner.{corner_at}
-use Rattle.predicates.specs.Net.{Net, Triangle, edges_in, times_in, has}
-use Rattle.predicates.specs.Sheet.{IsSheet}
+use Rattle.predicates.specs.Net.{Net, Triangle, edges_in, times_in, has, has_corner}
+use Rattle.predicates.specs.Sheet.{IsSheet, IsClosed}
 use Rattle.predicates.specs.Weighted.{Weighted, weighted_side, gathered}
 
 -- the point lies strictly inside the triangle
@@ -50,3 +50,13 @@ NeverCross = (net : Net) → IsSheet net → (a b u v : Corner) → 0 < times_in
 -- an edge has one triangle on its left
 abbrev pub OneOnEdge : Type 0
 OneOnEdge = (net : Net) → IsSheet net → (a b c d : Corner) → has net a b c ≡ true → has net a b d ≡ true → c ≡ d
+
+-- each point is a corner, each piece an edge, and has one count in both directions
+pub record IsSpanned (net : Net) : Type 0 where
+  pub reached : list_all (λ p. list_any (λ t. has_corner t (At p)) net.triangles) net.points ≡ true
+  pub pieces : (p q : Coords) → 0 < net.count p q → 0 < times_in (edges_in net) (At p, At q)
+  pub even : (p q : Coords) → net.count p q ≡ net.count q p
+
+-- a closed net that is spanned is a sheet: no edge occurs twice, and no triangle has a point but its corners
+abbrev pub ClosedLaw : Type 0
+ClosedLaw = (net : Net) → IsClosed net → IsSpanned net → IsSheet net

@@ -1,7 +1,7 @@
 //! Laws of the predicates, and of the sheets that a mesh keeps.
 
 ghost use Rattle.predicates.specs.Laws.{NeverTies};
-ghost use Rattle.predicates.specs.Tiling.{Covers, NeverCross, OneOnEdge, Packs};
+ghost use Rattle.predicates.specs.Tiling.{ClosedLaw, Covers, NeverCross, OneOnEdge, Packs};
 
 /// The in-circle test never ties: the lifted fourth place is not in the plane of the other three.
 pub fn tie_law()
@@ -26,4 +26,10 @@ pub fn cross_law()
 /// An edge of a sheet has one triangle on its left.
 pub fn owner_law()
     ensures { OneOnEdge }
+{}
+
+/// A closed net that is spanned is a sheet: where with the rim each edge occurs as often as its reverse, no edge occurs
+/// twice, and no triangle has a point but its corners. So whoever changes the triangles of a sheet owes only that.
+pub fn closed_law()
+    ensures { ClosedLaw }
 {}

@@ -17,7 +17,7 @@ pub use circle::is_inside;
 pub use corner::{in_circle, side};
 pub use crossing::crosses;
 pub use ground_model::Corner;
-pub use laws::{cover_law, cross_law, owner_law, pack_law, tie_law};
+pub use laws::{closed_law, cover_law, cross_law, owner_law, pack_law, tie_law};
 pub use sides::{exact_side, orientation};
 pub use sign::Sign;
 pub use triangle::{holds, triangle_holds};
