@@ -1,6 +1,6 @@
 #!/usr/bin/env bash
 # Prints how many million calls of `orientation` and `is_inside` a second this machine makes, over random
-# places and over cocircular ones. The program that times them is made in a folder of its own,
+# places and over cocircular ones, and how many of `side` and `in_circle` over corners that are places. The program that times them is made in a folder of its own,
 # from the text below over copies of the crates, proved, built and run; it stays no longer than
 # the script.
 set -eu
@@ -24,7 +24,7 @@ mod cases;
 
 use cases::{Four, Three};
 use ground_model::Place;
-use predicates::orientation;
+use predicates::{Corner, orientation, side};
 use std::alloc::{AllocError, Global};
 use std::io;
 use std::rt::Runtime;
@@ -114,6 +114,54 @@ fn insides(fours: &[Four]) -> u64 {
     count
 }
 
+#[inline(never)]
+fn left_corners(threes: &[Three]) -> u64 {
+    let mut count: u64 = 0;
+    for t in threes {
+        let sign = side(Corner::At(t.a), Corner::At(t.b), Corner::At(t.c));
+        count = count.wrapping_add(u64::from(sign.is_positive()));
+    }
+    count
+}
+
+#[inline(never)]
+fn corners_inside(fours: &[Four]) -> u64 {
+    let mut count: u64 = 0;
+    for f in fours {
+        count = count.wrapping_add(u64::from(f.corner_is_inside()));
+    }
+    count
+}
+
+fn time_corners<R: Runtime>(rt: &R, threes: &[Three], fours: &[Four]) -> io::Result<()> {
+    let start = Instant::now(rt)?;
+    let mut left: u64 = 0;
+    let mut calls: u64 = 0;
+    for round in 0..ROUNDS {
+        if let Some(part) = threes.get(round % 8..) {
+            left = left.wrapping_add(left_corners(part));
+            calls = calls.wrapping_add(part.len() as u64);
+        }
+    }
+    let micros = start.elapsed(rt)?.as_micros();
+    println!(rt; "side, random places: {} million calls a second ({left} of {calls} positive)", u128::from(calls) / micros.max(1))?;
+    time_corner_circles(rt, fours)
+}
+
+fn time_corner_circles<R: Runtime>(rt: &R, fours: &[Four]) -> io::Result<()> {
+    let start = Instant::now(rt)?;
+    let mut inside: u64 = 0;
+    let mut calls: u64 = 0;
+    for round in 0..ROUNDS {
+        if let Some(part) = fours.get(round % 8..) {
+            inside = inside.wrapping_add(corners_inside(part));
+            calls = calls.wrapping_add(part.len() as u64);
+        }
+    }
+    let micros = start.elapsed(rt)?.as_micros();
+    println!(rt; "in_circle, random places: {} million calls a second ({inside} of {calls} inside)", u128::from(calls) / micros.max(1))
+}
+
 fn time_sides<R: Runtime>(rt: &R, name: &str, threes: &[Three]) -> io::Result<()> {
     let start = Instant::now(rt)?;
     let mut left: u64 = 0;
@@ -150,7 +198,8 @@ fn main(rt: HostRuntime) -> io::Result<()> {
     time_sides(&rt, "random places", corners.as_slice())?;
     time_sides(&rt, "collinear places", flat.as_slice())?;
     time_circles(&rt, "random places", random.as_slice())?;
-    time_circles(&rt, "cocircular places", cocircular.as_slice())
+    time_circles(&rt, "cocircular places", cocircular.as_slice())?;
+    time_corners(&rt, corners.as_slice(), random.as_slice())
 }
 MAIN
 
@@ -161,7 +210,7 @@ ghost use Rattle.std.specs.Prelude.{◌≡◌, IsTrue};
 ghost use Rattle.ground_model.specs.Side.{is_left};
 
 use ground_model::Place;
-use predicates::{is_inside, orientation};
+use predicates::{Corner, in_circle, is_inside, orientation};
 
 #[derive(Clone, Copy)]
 pub struct Three {
@@ -183,6 +232,11 @@ impl Four {
     #[inline(always)]
     pub fn is_inside(&self) -> bool {
         is_inside(self.a, self.b, self.c, self.d)
+    }
+
+    #[inline(always)]
+    pub fn corner_is_inside(&self) -> bool {
+        in_circle(Corner::At(self.a), Corner::At(self.b), Corner::At(self.c), Corner::At(self.d))
     }
 }
 

@@ -7,13 +7,13 @@ use Rattle.ground_model.specs.Side.{side}
 use Rattle.ground_model.proofs.Ring.{Expr, var, num, ◌⊕◌, ◌⊖◌, ◌⊗◌, ring}
 use Rattle.ground_model.proofs.ZLaws.{mul_comm}
 use Rattle.ground_model.proofs.ZOrder.{mul-positive}
-use Rattle.cdt_law.specs.Weighted.{Weighted, weighted_side}
-use Rattle.cdt_law.proofs.Signs.{mul-nonneg, mul-nonpos, mul-mixed, mul-negative, level-down, level-up, never-low, weaken, weaken-neg}
-use Rattle.cdt_law.proofs.WeightedSides.{pointE, placeE, weighted_side-mixed}
-use Rattle.cdt_law.proofs.Crossings.{weighted_side-back}
-use Rattle.cdt_law.proofs.CrossedEdges.{Crosses}
-use Rattle.cdt_law.proofs.Nudged.{Inside}
-use Rattle.cdt_law.proofs.Sides.{flat_bc, flat_ca, side-back}
+use Rattle.predicates.specs.Weighted.{Weighted, weighted_side}
+use Rattle.predicates.proofs.Signs.{mul-nonneg, mul-nonpos, mul-mixed, mul-negative, level-down, level-up, never-low, weaken, weaken-neg}
+use Rattle.predicates.proofs.WeightedSides.{pointE, placeE, weighted_side-mixed}
+use Rattle.predicates.proofs.Crossings.{weighted_side-back}
+use Rattle.predicates.proofs.CrossedEdges.{Crosses}
+use Rattle.predicates.proofs.Nudged.{Inside}
+use Rattle.predicates.proofs.FlatSides.{flat_bc, flat_ca, side-back}
 
 -- z lies in the closed triangle only as a corner of it
 pub record OnlyCorner (p q r z : Coords) : Type 0 where

@@ -14,8 +14,8 @@ use Rattle.ground_model.proofs.Ties.{same_of_is_same}
 use Rattle.ground_model.proofs.Segments.{not_after}
 use Rattle.ground_model.proofs.Along.{same_place}
 use Rattle.cdt_law.specs.Laws.{EdgeLaw, has_edge}
-use Rattle.cdt_law.proofs.OneOwner.{on_one_side, turned-third}
-use Rattle.cdt_law.proofs.Owners.{Still}
+use Rattle.predicates.proofs.OneOwner.{on_one_side, turned-third}
+use Rattle.predicates.proofs.Owners.{Still}
 use Rattle.cdt_law.proofs.GoodTriangle.{Site, IsSite, IsGood, good-turned}
 use Rattle.cdt_law.proofs.OneTriangle.{one_triangle}
 use Rattle.cdt_law.proofs.Counts.{CountsPieces, both_ways, Joined, joined-by, IsCounted, counted-of, both-then, both-else}

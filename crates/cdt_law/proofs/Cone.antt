@@ -6,11 +6,11 @@ use Rattle.ground_model.specs.Place.{Coords}
 use Rattle.ground_model.specs.Side.{side}
 use Rattle.ground_model.proofs.Ring.{Expr, var, num, ◌⊕◌, ◌⊖◌, ◌⊗◌, ring}
 use Rattle.ground_model.proofs.ZOrder.{mul-positive}
-use Rattle.cdt_law.specs.Weighted.{Weighted, weighted_side}
-use Rattle.cdt_law.proofs.Signs.{mul-nonneg, mul-mixed, mul-negative, never-high, positive-less, weaken}
-use Rattle.cdt_law.proofs.WeightedSides.{pointE, placeE}
+use Rattle.predicates.specs.Weighted.{Weighted, weighted_side}
+use Rattle.predicates.proofs.Signs.{mul-nonneg, mul-mixed, mul-negative, never-high, positive-less, weaken}
+use Rattle.predicates.proofs.WeightedSides.{pointE, placeE}
 use Rattle.cdt_law.proofs.Walls.{Walls}
-use Rattle.cdt_law.proofs.Nudged.{Inside}
+use Rattle.predicates.proofs.Nudged.{Inside}
 use Rattle.cdt_law.proofs.CleanTriangle.{Parts}
 
 -- ---- identities: a, b, p, u, v have numbers 0 to 4, the point the variables 10 to 12; and c number 3 in those of four

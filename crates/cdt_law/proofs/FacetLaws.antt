@@ -14,18 +14,18 @@ use Rattle.ground_model.proofs.Elements.{both_true, any_gives, some_counted}
 use Rattle.ground_model.proofs.LinePieces.{IsPiece, piece_of, is_point_in}
 use Rattle.ground_model.proofs.Members.{is_among-facets, is_among-tri}
 use Rattle.ground_model.proofs.Along.{same_place}
-use Rattle.cdt_law.specs.Net.{Net, facets_of, tri_of, net_over}
-use Rattle.cdt_law.specs.Sheet.{IsSheet}
+use Rattle.predicates.specs.Net.{Net, facets_of, tri_of, net_over}
+use Rattle.predicates.specs.Sheet.{IsSheet}
 use Rattle.cdt_law.specs.Laws.{FacetLaw, UniqueLaw, AreOverOne, NetLaw}
 use Rattle.cdt_law.proofs.GoodTriangle.{Site}
 use Rattle.cdt_law.proofs.GoodInSheet.{site_of, sheet-site}
 use Rattle.cdt_law.proofs.Counts.{CountsPieces, both_ways, both-then, both-else}
-use Rattle.cdt_law.proofs.Tiling.{left-of}
-use Rattle.cdt_law.proofs.Owners.{owner, turn-side}
+use Rattle.predicates.proofs.Tiling.{left-of}
+use Rattle.predicates.proofs.Owners.{owner, turn-side}
 use Rattle.cdt_law.proofs.GoodFacet.{site_by}
 use Rattle.cdt_law.proofs.SheetFacets.{IsFacetOf, facet-of, facet-in, tested-of, tested-in}
-use Rattle.cdt_law.proofs.Signs.{never-level}
-use Rattle.cdt_law.proofs.Sides.{flat_ab}
+use Rattle.predicates.proofs.Signs.{never-level}
+use Rattle.predicates.proofs.FlatSides.{flat_ab}
 
 -- ---- the counts of a content
 piece-counted : (c : Content) (p q : Coords) → 0 < count c p q → (line : Line) × IsPiece (points_of c) line p q
@@ -67,7 +67,7 @@ unique_law net other sheet local sheet' local' o f =
 
 -- ---- a net by itself
 -- the count of a net, from each point to the later ones
-abbrev later_count : Net → Coords → Coords → ℕ
+abbrev pub later_count : Net → Coords → Coords → ℕ
 later_count net p q = if is_before p q then net.count p q else 0
 
 -- no piece begins and ends at one place

@@ -10,18 +10,18 @@ use Rattle.ground_model.specs.Side.{side}
 use Rattle.ground_model.specs.Mark.{is_same_facet}
 use Rattle.ground_model.specs.Corner.{corner_side}
 use Rattle.ground_model.proofs.Elements.{some_counted}
-use Rattle.cdt_law.specs.Net.{Net, Triangle, facet_by}
-use Rattle.cdt_law.specs.Sheet.{IsSheet}
-use Rattle.cdt_law.specs.Weighted.{weighted_side}
+use Rattle.predicates.specs.Net.{Net, Triangle, facet_by}
+use Rattle.predicates.specs.Sheet.{IsSheet}
+use Rattle.predicates.specs.Weighted.{weighted_side}
 use Rattle.cdt_law.specs.Laws.{OnceLaw}
-use Rattle.cdt_law.proofs.Tiling.{left-of}
-use Rattle.cdt_law.proofs.Nudged.{Inside, center, center-pq, center-qr, center-rp}
-use Rattle.cdt_law.proofs.FarTriangle.{packed}
-use Rattle.cdt_law.proofs.Owners.{IsTurn, turn-side, turn-inside}
+use Rattle.predicates.proofs.Tiling.{left-of}
+use Rattle.predicates.proofs.Nudged.{Inside, center, center-pq, center-qr, center-rp}
+use Rattle.predicates.proofs.FarTriangle.{packed}
+use Rattle.predicates.proofs.Owners.{IsTurn, turn-side, turn-inside}
 use Rattle.cdt_law.proofs.Kept.{kept-of}
 use Rattle.cdt_law.proofs.SheetFacets.{OfPlaces, of-places, TurnedFirst, turned-first, same-facet}
-use Rattle.cdt_law.proofs.Signs.{never-level, positive-along}
-use Rattle.cdt_law.proofs.Sides.{flat_ab, flat_bc, flat_ca}
+use Rattle.predicates.proofs.Signs.{never-level, positive-along}
+use Rattle.predicates.proofs.FlatSides.{flat_ab, flat_bc, flat_ca}
 
 -- ---- at most one is kept
 -- what passes is made of one element alone

@@ -9,13 +9,13 @@ use Rattle.ground_model.specs.declared.corner.Corner.TheVariants.{At, Far}
 use Rattle.ground_model.specs.Place.{IsPlace}
 use Rattle.ground_model.specs.Side.{side}
 use Rattle.ground_model.specs.Corner.{is_same_corner}
-use Rattle.cdt_law.specs.Net.{Triangle, is_turned, is_triangle}
-use Rattle.cdt_law.specs.Sheet.{IsSheet, IsLocallyDelaunay}
-use Rattle.cdt_law.specs.Tiling.{far_triangle}
+use Rattle.predicates.specs.Net.{Triangle, is_turned, is_triangle}
+use Rattle.predicates.specs.Sheet.{IsSheet, IsLocallyDelaunay}
+use Rattle.predicates.specs.Tiling.{far_triangle}
 use Rattle.cdt_law.specs.Laws.{first_net, FirstLaw}
-use Rattle.cdt_law.proofs.FarSides.{f0, f1, f2, far-turned}
-use Rattle.cdt_law.proofs.Owners.{IsTurn, Still, Once, Twice}
-use Rattle.cdt_law.proofs.LocalLaw.{turn-of}
+use Rattle.predicates.proofs.FarSides.{f0, f1, f2, far-turned}
+use Rattle.predicates.proofs.Owners.{IsTurn, Still, Once, Twice}
+use Rattle.predicates.proofs.HasTriangles.{turn-of}
 
 -- the tests of one corner against the three far ones: one of them at most
 data Tests : Bool → Bool → Bool → Type 0 where

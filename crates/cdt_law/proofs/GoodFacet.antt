@@ -19,20 +19,21 @@ use Rattle.ground_model.proofs.LinePieces.{in_points, is_point_in, is_same_itsel
 use Rattle.ground_model.proofs.Segments.{crosses_from}
 use Rattle.ground_model.proofs.Ties.{same_of_is_same, turns_of_left}
 use Rattle.ground_model.proofs.Corners.{is_corner_inside-places}
-use Rattle.cdt_law.proofs.Signs.{mul-negative, negative-along, negative-neg, positive-neg}
-use Rattle.cdt_law.proofs.Heights.{lift, deep}
-use Rattle.cdt_law.proofs.Depths.{below_of_deep}
-use Rattle.cdt_law.proofs.FarTriangle.{Place, listed-place}
-use Rattle.cdt_law.proofs.CrossedEdges.{Crosses}
-use Rattle.cdt_law.proofs.NeverCross.{crosses-way, right_is}
-use Rattle.cdt_law.proofs.LocalLaw.{inside-deep}
+use Rattle.predicates.proofs.Signs.{mul-negative, negative-along, negative-neg, positive-neg}
+use Rattle.predicates.proofs.Heights.{lift, deep}
+use Rattle.predicates.proofs.Depths.{below_of_deep}
+use Rattle.predicates.proofs.Valid.{Place}
+use Rattle.predicates.proofs.FarTriangle.{listed-place}
+use Rattle.predicates.proofs.CrossedEdges.{Crosses}
+use Rattle.predicates.proofs.NeverCross.{crosses-way, right_is}
+use Rattle.predicates.proofs.InsideDepths.{inside-deep}
 use Rattle.cdt_law.proofs.WallTests.{walled-from, walled-back, walls-of}
 use Rattle.cdt_law.proofs.Walls.{Walls}
-use Rattle.cdt_law.proofs.NoFourInPlane.{is_left-from}
+use Rattle.predicates.proofs.NoFourInPlane.{is_left-from}
 use Rattle.cdt_law.proofs.GoodTriangle.{Site, WallAt, IsGood, IsFree}
 use Rattle.cdt_law.proofs.Counts.{CountsPieces, both_ways, IsCounted, counted-of, Joined, joined-by, both-some, both-some-back}
 use Rattle.cdt_law.proofs.SideTests.{right_from, not_right-from, not_right-is}
-use Rattle.cdt_law.proofs.Sides.{side-back}
+use Rattle.predicates.proofs.FlatSides.{side-back}
 
 -- the points with the pieces that a count makes
 abbrev pub site_by : (Coords → Coords → ℕ) → List Coords → Site

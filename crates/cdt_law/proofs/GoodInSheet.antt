@@ -1,36 +1,39 @@
 -- The triangles of a locally Delaunay sheet are good, and each good triangle of three points is one of them.
-use Rattle.std.proofs.Common.{◌≡◌, ℕ, ◌⊎◌, inl, inr, refl, sym, ap, arith, [], ◌∷◌, true, false}
+use Rattle.std.proofs.Common.{◌≡◌, ℕ, ◌⊎◌, inl, inr, refl, sym, ap, ◌∙◌, arith, [], ◌∷◌, true, false}
 use Rattle.std.specs.Prelude.{ℤ, pos, ◌<ℤ◌, ◌≤ℤ◌, int_lt, not, ◌&&◌, Some, slice_get}
 use Rattle.std.proofs.lemmas.Int.{ints}
 use Rattle.std.proofs.lemmas.Bool.{and_parts, and_from, or_left, or_right}
 use Rattle.std.proofs.lemmas.List.Elements.{All-nil, All-cons}
 use Rattle.ground_model.specs.declared.corner.Corner.{Corner}
 use Rattle.ground_model.specs.declared.corner.Corner.TheVariants.{At, Far}
-use Rattle.ground_model.specs.Place.{Coords, IsPlace}
+use Rattle.ground_model.specs.Place.{Coords, IsPlace, is_same}
 use Rattle.ground_model.specs.Side.{side}
 use Rattle.ground_model.specs.Line.{is_point}
 use Rattle.ground_model.specs.Corner.{corner_at, corner_side, is_same_corner}
-use Rattle.cdt_law.specs.Net.{Net, Triangle, has, is_triangle, covers, is_beyond}
-use Rattle.cdt_law.specs.Sheet.{IsSheet, IsLocallyDelaunay, is_over, are_over}
-use Rattle.cdt_law.specs.Weighted.{weighted_side, gathered}
-use Rattle.cdt_law.specs.Tiling.{HasWithin}
-use Rattle.cdt_law.proofs.Edges.{corner-self}
-use Rattle.cdt_law.proofs.Tiling.{each-passes, left-of}
-use Rattle.cdt_law.proofs.Heights.{lift, deep}
-use Rattle.cdt_law.proofs.HigherPlanes.{depth-turned}
-use Rattle.cdt_law.proofs.Cover.{covered, gathered-some}
-use Rattle.cdt_law.proofs.Nudged.{Inside, Shared, nudged, center, center-pq, center-qr, center-rp}
-use Rattle.cdt_law.proofs.FarTriangle.{IsValid, AreValid, Place, Far0, Far1, Far2, sheet-valid, listed-place}
-use Rattle.cdt_law.proofs.Owners.{IsTurn, Still, Once, Twice, owner, turn-side}
-use Rattle.cdt_law.proofs.NeverCross.{uncrossed}
-use Rattle.cdt_law.proofs.Walk.{turn-next, turn-valid}
+use Rattle.predicates.specs.Net.{Net, Triangle, has, is_triangle, covers, is_beyond}
+use Rattle.predicates.specs.Sheet.{IsSheet, IsLocallyDelaunay, is_over, are_over}
+use Rattle.predicates.specs.Weighted.{weighted_side, gathered}
+use Rattle.predicates.specs.Tiling.{HasWithin}
+use Rattle.predicates.proofs.Edges.{corner-self}
+use Rattle.predicates.proofs.Tiling.{each-passes, left-of}
+use Rattle.predicates.proofs.Heights.{lift, deep}
+use Rattle.predicates.proofs.HigherPlanes.{depth-turned}
+use Rattle.predicates.proofs.Cover.{covered, gathered-some}
+use Rattle.predicates.proofs.Nudged.{Inside, Shared, nudged, center, center-pq, center-qr, center-rp}
+use Rattle.predicates.proofs.Valid.{IsValid, Place, Far0, Far1, Far2}
+use Rattle.predicates.proofs.FarTriangle.{AreValid, sheet-valid, listed-place}
+use Rattle.predicates.proofs.Owners.{IsTurn, Still, Once, Twice, owner, turn-side, turn-next}
+use Rattle.predicates.proofs.NeverCross.{uncrossed}
+use Rattle.cdt_law.proofs.Walk.{turn-valid}
 use Rattle.cdt_law.proofs.WalkSteps.{walled, at-corner}
 use Rattle.cdt_law.proofs.LocalLaw.{around}
-use Rattle.cdt_law.proofs.SheetTests.{any-at}
-use Rattle.cdt_law.proofs.FarAbove.{far_above, IsFar0, IsFar1, IsFar2}
+use Rattle.cdt_law.proofs.SheetTests.{sheet-clear}
+use Rattle.ground_model.proofs.Ties.{same_of_is_same}
+use Rattle.predicates.proofs.HasTriangles.{any-at, any-found}
+use Rattle.predicates.proofs.FarAbove.{far_above, IsFar0, IsFar1, IsFar2}
 use Rattle.cdt_law.proofs.GoodTriangle.{Site, IsSite, IsGood, IsFree, IsGuarded}
 use Rattle.cdt_law.proofs.OneTriangle.{PointAt, one_triangle}
-use Rattle.cdt_law.proofs.Signs.{never-both, positive-along}
+use Rattle.predicates.proofs.Signs.{never-both, positive-along}
 
 -- the points and pieces of a net
 abbrev pub site_of : Net → Site
@@ -68,12 +71,25 @@ turn-holds t a b c p Still ab bc ca = holds-three t p ab bc ca
 turn-holds t a b c p Once ab bc ca = holds-three t p ca ab bc
 turn-holds t a b c p Twice ab bc ca = holds-three t p bc ca ab
 
+-- a point in the closed triangle is a corner
+pub sheet-only : (net : Net) → IsSheet net → (k : ℕ) (t : Triangle) (a b c : Corner) → slice_get net.triangles k ≡ Some t → IsTurn t a b c
+    → (p : Coords) → is_point net.points p ≡ true → pos 0 ≤ℤ side (corner_at a) (corner_at b) p → pos 0 ≤ℤ side (corner_at b) (corner_at c) p → pos 0 ≤ℤ side (corner_at c) (corner_at a) p → (At p ≡ a) ⊎ ((At p ≡ b) ⊎ (At p ≡ c))
+sheet-only net sheet k t a b c at turn p at_p ab bc ca =
+    let found = any-found (is_same p) net.points at_p in
+    let same : p ≡ found.item = same_of_is_same p found.item found.passes in
+    flipped (at-corner t a b c (At p) turn (sheet-clear net sheet found.index p (found.at ∙ ap Some (sym same)) k t at (turn-holds t a b c p turn ab bc ca)))
+  where
+    flipped : (a ≡ At p) ⊎ ((b ≡ At p) ⊎ (c ≡ At p)) → (At p ≡ a) ⊎ ((At p ≡ b) ⊎ (At p ≡ c))
+    flipped (inl e) = inl (sym e)
+    flipped (inr (inl e)) = inr (inl (sym e))
+    flipped (inr (inr e)) = inr (inr (sym e))
+
 sheet-guarded : (net : Net) → IsSheet net → IsLocallyDelaunay net → (k : ℕ) (t : Triangle) (a b c : Corner) → slice_get net.triangles k ≡ Some t → IsTurn t a b c → IsGuarded (site_of net) a b c a b
 sheet-guarded net sheet local k t a b c at turn p at_p deep_p beyond =
     let w = walled (around net sheet local p at_p) a b (record { index = k; triangle = t; third = c; at = at; turn = turn }) deep_p beyond in
     record { u = w.u; v = w.v; piece = w.piece; at_a = w.at_a; at_b = w.at_b }
 
-sheet-free : (net : Net) → IsSheet net → (k : ℕ) (t : Triangle) (a b c : Corner) → slice_get net.triangles k ≡ Some t → IsTurn t a b c → IsFree (site_of net) a b
+pub sheet-free : (net : Net) → IsSheet net → (k : ℕ) (t : Triangle) (a b c : Corner) → slice_get net.triangles k ≡ Some t → IsTurn t a b c → IsFree (site_of net) a b
 sheet-free net sheet k t a b c at turn u v piece x =
     uncrossed net sheet a b (At u) (At v) (record { index = k; triangle = t; third = c; at = at; turn = turn }) (owner net (At u) (At v) (sheet.pieces u v piece)) x
 
@@ -81,7 +97,7 @@ pub sheet-good : (net : Net) → IsSheet net → IsLocallyDelaunay net → (k : 
 sheet-good net sheet local k t a b c at turn = record {
   all_in = turn-valid t a b c turn (sheet-valid net sheet k t at);
   turned = turn-side t a b c turn (left-of net sheet k t at);
-  clear = clear;
+  clear = sheet-only net sheet k t a b c at turn;
   free_ab = sheet-free net sheet k t a b c at turn;
   free_bc = sheet-free net sheet k t b c a at turn_b;
   free_ca = sheet-free net sheet k t c a b at turn_c;
@@ -96,18 +112,9 @@ sheet-good net sheet local k t a b c at turn = record {
     turn_c : IsTurn t c a b
     turn_c = turn-next t b c a turn_b
 
-    flipped : (p : Coords) → (a ≡ At p) ⊎ ((b ≡ At p) ⊎ (c ≡ At p)) → (At p ≡ a) ⊎ ((At p ≡ b) ⊎ (At p ≡ c))
-    flipped p (inl e) = inl (sym e)
-    flipped p (inr (inl e)) = inr (inl (sym e))
-    flipped p (inr (inr e)) = inr (inr (sym e))
-
-    clear : (p : Coords) → is_point net.points p ≡ true → pos 0 ≤ℤ side (corner_at a) (corner_at b) p → pos 0 ≤ℤ side (corner_at b) (corner_at c) p → pos 0 ≤ℤ side (corner_at c) (corner_at a) p → (At p ≡ a) ⊎ ((At p ≡ b) ⊎ (At p ≡ c))
-    clear p at_p ab bc ca =
-        flipped p (at-corner t a b c (At p) turn ((around net sheet local p at_p).clear k t at (turn-holds t a b c p turn ab bc ca)))
-
 -- ---- a good triangle of three points is in the sheet
 -- a corner of the sheet below the plane of three places is a point
-below-point : (net : Net) → IsSheet net → (a b c : Coords) → IsPlace a → IsPlace b → IsPlace c → pos 0 <ℤ side a b c → (z : Corner) → IsValid z → is_over net.points z ≡ true → pos 0 <ℤ deep (At a) (At b) (At c) z → PointAt (site_of net) z
+pub below-point : (net : Net) → IsSheet net → (a b c : Coords) → IsPlace a → IsPlace b → IsPlace c → pos 0 <ℤ side a b c → (z : Corner) → IsValid z → is_over net.points z ≡ true → pos 0 <ℤ deep (At a) (At b) (At c) z → PointAt (site_of net) z
 below-point net sheet a b c ha hb hc turned z (Place p h) over d = record { place = p; is = refl; at = over }
 below-point net sheet a b c ha hb hc turned z Far0 over d = absurd (never-both (deep (At a) (At b) (At c) (Far 0)) d (far_above a b c (Far 0) ha hb hc IsFar0 turned))
 below-point net sheet a b c ha hb hc turned z Far1 over d = absurd (never-both (deep (At a) (At b) (At c) (Far 1)) d (far_above a b c (Far 1) ha hb hc IsFar1 turned))

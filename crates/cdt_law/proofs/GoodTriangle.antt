@@ -12,21 +12,22 @@ use Rattle.ground_model.specs.Lifted.{Lifted}
 use Rattle.ground_model.specs.Corner.{corner_at, corner_side}
 use Rattle.ground_model.proofs.Ring.{var, num, ◌⊕◌, ◌⊖◌, ◌⊗◌, ring}
 use Rattle.ground_model.proofs.Circle.{sideE, side-turned}
-use Rattle.cdt_law.specs.Weighted.{Weighted}
-use Rattle.cdt_law.specs.Depth.{depth}
-use Rattle.cdt_law.proofs.Heights.{lift, deep}
-use Rattle.cdt_law.proofs.Nudged.{Inside}
-use Rattle.cdt_law.proofs.CrossedEdges.{Crosses}
+use Rattle.predicates.specs.Weighted.{Weighted}
+use Rattle.predicates.specs.Depth.{depth}
+use Rattle.predicates.proofs.Heights.{lift, deep}
+use Rattle.predicates.proofs.Nudged.{Inside}
+use Rattle.predicates.proofs.CrossedEdges.{Crosses}
 use Rattle.cdt_law.proofs.Walls.{Walls}
-use Rattle.cdt_law.proofs.HigherPlanes.{depth-turned}
-use Rattle.cdt_law.proofs.OneEdgeBeyond.{beyond_ab-bc, beyond_ab-ca}
-use Rattle.cdt_law.proofs.FarTriangle.{IsValid, Place, listed-place}
-use Rattle.cdt_law.proofs.PlanesBelow.{leans, lean_e, lean_n}
+use Rattle.predicates.proofs.HigherPlanes.{depth-turned}
+use Rattle.predicates.proofs.OneEdgeBeyond.{beyond_ab-bc, beyond_ab-ca}
+use Rattle.predicates.proofs.Valid.{IsValid, Place}
+use Rattle.predicates.proofs.FarTriangle.{listed-place}
+use Rattle.predicates.proofs.PlanesBelow.{leans, lean_e, lean_n}
 use Rattle.cdt_law.proofs.Walk.{AllValid}
 use Rattle.cdt_law.proofs.CleanTriangle.{OnlyCorner, clean}
 use Rattle.cdt_law.proofs.Cone.{parted}
-use Rattle.cdt_law.proofs.Signs.{negative-neg, never-flat, never-level, positive-along, positive-neg}
-use Rattle.cdt_law.proofs.Sides.{flat_ab, flat_bc, flat_ca, side-back}
+use Rattle.predicates.proofs.Signs.{negative-neg, never-flat, never-level, positive-along, positive-neg}
+use Rattle.predicates.proofs.FlatSides.{flat_ab, flat_bc, flat_ca, side-back}
 
 -- points, and how often each two are the ends of a piece
 pub record Site : Type 0 where

@@ -1,34 +1,3 @@
--- sums
-pub mod Sums
-pub mod Signs
-pub mod Permuted
-pub mod OneOfMany
--- half-open crossings
-pub mod HalfOpen
-pub mod Crossings
-pub mod WeightedSides
-pub mod Sides
--- the tiling
-pub mod Edges
-pub mod Tiling
-pub mod FarSides
-pub mod FarTriangle
-pub mod Cover
-pub mod Nudged
-pub mod CrossedEdges
-pub mod Owners
-pub mod NeverCross
-pub mod OneOwner
--- heights
-pub mod Depths
-pub mod OneEdgeBeyond
-pub mod HigherPlanes
-pub mod Heights
-pub mod FarNumbers
-pub mod PlanesBelow
-pub mod FourApart
-pub mod NoFourInPlane
-pub mod FarAbove
 -- locally Delaunay implies walled
 pub mod Walls
 pub mod WallTests
@@ -53,3 +22,11 @@ pub mod SheetFacets
 pub mod FacetLaws
 pub mod CommonEdge
 pub mod FacetsOnce
+-- flips
+pub mod NoWallOver
+pub mod FlipQuad
+pub mod Exchanged
+pub mod FlipKept
+pub mod FlipFalls
+pub mod IllegalEdge
+pub mod FlipLaws

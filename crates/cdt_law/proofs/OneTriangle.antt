@@ -8,19 +8,19 @@ use Rattle.ground_model.specs.Place.{Coords}
 use Rattle.ground_model.specs.Line.{is_point}
 use Rattle.ground_model.specs.Corner.{corner_at, corner_side, is_same_corner}
 use Rattle.ground_model.proofs.Circle.{side-turned}
-use Rattle.cdt_law.specs.Net.{Triangle}
-use Rattle.cdt_law.specs.Weighted.{Weighted, weighted_side}
-use Rattle.cdt_law.proofs.Signs.{mul-mixed, mul-negative, never-level, weaken}
-use Rattle.cdt_law.proofs.Edges.{corner-equal, corner-self}
-use Rattle.cdt_law.proofs.Heights.{lift, deep}
-use Rattle.cdt_law.proofs.Nudged.{Inside}
-use Rattle.cdt_law.proofs.FarTriangle.{IsValid}
-use Rattle.cdt_law.proofs.Owners.{IsTurn, Still, Once, Twice}
-use Rattle.cdt_law.proofs.LocalLaw.{turn-moved}
-use Rattle.cdt_law.proofs.NoFourInPlane.{not_flat}
+use Rattle.predicates.specs.Net.{Triangle}
+use Rattle.predicates.specs.Weighted.{Weighted, weighted_side}
+use Rattle.predicates.proofs.Signs.{mul-mixed, mul-negative, never-level, weaken}
+use Rattle.predicates.proofs.Edges.{corner-equal, corner-self}
+use Rattle.predicates.proofs.Heights.{lift, deep}
+use Rattle.predicates.proofs.Nudged.{Inside}
+use Rattle.predicates.proofs.Valid.{IsValid}
+use Rattle.predicates.proofs.Owners.{IsTurn, Still, Once, Twice}
+use Rattle.predicates.proofs.HasTriangles.{turn-moved}
+use Rattle.predicates.proofs.NoFourInPlane.{not_flat}
 use Rattle.cdt_law.proofs.SixDepths.{weighed}
 use Rattle.cdt_law.proofs.GoodTriangle.{Site, IsSite, IsGood, good-turned, inside-turned, no_deep}
-use Rattle.cdt_law.proofs.Sides.{flat_ab, flat_bc, flat_ca, side-back}
+use Rattle.predicates.proofs.FlatSides.{flat_ab, flat_bc, flat_ca, side-back}
 
 -- the corner is a point
 pub record PointAt (s : Site) (z : Corner) : Type 0 where

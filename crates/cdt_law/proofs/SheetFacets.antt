@@ -17,17 +17,17 @@ use Rattle.ground_model.proofs.Ties.{same_of_is_same}
 use Rattle.ground_model.proofs.LinePieces.{is_same_itself}
 use Rattle.ground_model.proofs.Segments.{not_after, before_trans}
 use Rattle.ground_model.proofs.Along.{same_place}
-use Rattle.cdt_law.specs.Net.{Net, Triangle, is_triangle, facet_on, facet_turned, facet_by, facets_of}
-use Rattle.cdt_law.specs.Sheet.{IsSheet, IsLocallyDelaunay, is_over}
-use Rattle.cdt_law.proofs.Owners.{IsTurn, Still, Once, Twice}
-use Rattle.cdt_law.proofs.LocalLaw.{Found, any-found, turn-of}
+use Rattle.predicates.specs.Net.{Net, Triangle, is_triangle, facet_on, facet_turned, facet_by, facets_of}
+use Rattle.predicates.specs.Sheet.{IsSheet, IsLocallyDelaunay, is_over}
+use Rattle.predicates.proofs.Owners.{IsTurn, Still, Once, Twice}
+use Rattle.predicates.proofs.HasTriangles.{Found, any-found, turn-of}
 use Rattle.cdt_law.proofs.GoodTriangle.{Site, IsGood, good-turned}
 use Rattle.cdt_law.proofs.GoodInSheet.{site_of, sheet-good, good-in-sheet, over-first}
 use Rattle.cdt_law.proofs.Counts.{CountsPieces, count_at-pieces}
 use Rattle.cdt_law.proofs.GoodFacet.{site_by, facet-good, good-facet, least-of}
 use Rattle.cdt_law.proofs.Kept.{Kept, kept-of, kept-in}
-use Rattle.cdt_law.proofs.Signs.{never-level}
-use Rattle.cdt_law.proofs.Sides.{flat_ab, flat_bc, flat_ca}
+use Rattle.predicates.proofs.Signs.{never-level}
+use Rattle.predicates.proofs.FlatSides.{flat_ab, flat_bc, flat_ca}
 
 pub record IsFacetOf (s : Site) (f : Facet) : Type 0 where
   pub at_a : is_point s.points f.a ≡ true

@@ -8,7 +8,7 @@ use Rattle.std.proofs.lemmas.Int.{ints}
 use Rattle.std.proofs.lemmas.Cmp.{int_ranked}
 use Rattle.ground_model.specs.Place.{Coords}
 use Rattle.ground_model.specs.Side.{side, orientation, is_right}
-use Rattle.cdt_law.proofs.Signs.{never-high}
+use Rattle.predicates.proofs.Signs.{never-high}
 
 abbrev Shows : Ordering → ℤ → Type 0
 Shows o s = MatchOrdering o (s <ℤ pos 0) (s ≡ pos 0) (pos 0 <ℤ s)

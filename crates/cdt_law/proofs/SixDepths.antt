@@ -4,9 +4,9 @@ use Rattle.std.specs.Prelude.{pos, ◌+ℤ◌, ◌*ℤ◌}
 use Rattle.ground_model.specs.Side.{side}
 use Rattle.ground_model.specs.Lifted.{Lifted}
 use Rattle.ground_model.proofs.Ring.{Expr, var, num, ◌⊕◌, ◌⊖◌, ◌⊗◌, ring}
-use Rattle.cdt_law.specs.Weighted.{Weighted, weighted_side}
-use Rattle.cdt_law.specs.Depth.{depth}
-use Rattle.cdt_law.proofs.WeightedSides.{pointE, placeE}
+use Rattle.predicates.specs.Weighted.{Weighted, weighted_side}
+use Rattle.predicates.specs.Depth.{depth}
+use Rattle.predicates.proofs.WeightedSides.{pointE, placeE}
 
 -- a, b, c, p, q, r have numbers 0 to 5, their heights follow, then the point
 abbrev deepE : ℕ → ℕ → ℕ → ℕ → Expr

@@ -1,24 +1,23 @@
 -- Where a sheet is locally Delaunay, each point below a triangle's plane and beyond its edge is walled from that edge.
-use Rattle.std.proofs.Common.{◌≡◌, ℕ, zero, suc, ◌+◌, ◌<◌, refl, sym, subst, arith, List, [], ◌∷◌, ◌++◌, Bool, true, false, flat_map}
-use Rattle.std.specs.Prelude.{ℤ, pos, ◌<ℤ◌, ◌≤ℤ◌, Some, slice_get, count_by, cond}
+use Rattle.std.proofs.Common.{◌≡◌, ℕ, ◌<◌, refl, sym, arith, true}
+use Rattle.std.specs.Prelude.{ℤ, pos, ◌<ℤ◌, ◌≤ℤ◌, Some, slice_get}
 use Rattle.std.proofs.lemmas.Int.{ints}
-use Rattle.std.proofs.lemmas.List.Sums.{sum_by-append}
 use Rattle.ground_model.specs.declared.corner.Corner.{Corner}
 use Rattle.ground_model.specs.declared.corner.Corner.TheVariants.{At, Far}
 use Rattle.ground_model.specs.Place.{Coords, IsPlace}
 use Rattle.ground_model.specs.Side.{side}
 use Rattle.ground_model.specs.Corner.{corner_at, corner_side}
 use Rattle.ground_model.proofs.Circle.{side-turned}
-use Rattle.cdt_law.specs.Net.{Net, Triangle, edges_of, is_same_edge, count_of, covers, has_corner}
-use Rattle.cdt_law.specs.Sheet.{IsSheet}
-use Rattle.cdt_law.proofs.Edges.{edge-tells}
-use Rattle.cdt_law.proofs.FarTriangle.{IsValid, AreValid}
-use Rattle.cdt_law.proofs.Owners.{IsTurn, Still, Once, Twice, Owner}
+use Rattle.predicates.specs.Net.{Net, Triangle, count_of, covers, has_corner}
+use Rattle.predicates.specs.Sheet.{IsSheet}
+use Rattle.predicates.proofs.Valid.{IsValid}
+use Rattle.predicates.proofs.FarTriangle.{AreValid}
+use Rattle.predicates.proofs.Owners.{IsTurn, Still, Once, Twice, Owner}
 use Rattle.cdt_law.proofs.Walls.{Walls}
-use Rattle.cdt_law.proofs.Heights.{lift, deep}
-use Rattle.cdt_law.proofs.HigherPlanes.{depth-turned}
-use Rattle.cdt_law.proofs.Signs.{level-down, level-up}
-use Rattle.cdt_law.proofs.Sides.{flat_bc, flat_ca, positive-back}
+use Rattle.predicates.proofs.Heights.{lift, deep}
+use Rattle.predicates.proofs.HigherPlanes.{depth-turned}
+use Rattle.predicates.proofs.Signs.{level-down, level-up}
+use Rattle.predicates.proofs.FlatSides.{flat_bc, flat_ca, positive-back}
 
 -- ---- a sheet and a place of it
 pub record Around : Type 0 where
@@ -38,11 +37,6 @@ pub record Walled (g : Around) (a b : Corner) : Type 0 where
   pub at_b : Walls u v (corner_at b) g.p
 
 -- ---- turns
-pub turn-next : (t : Triangle) (a b c : Corner) → IsTurn t a b c → IsTurn t b c a
-turn-next t a b c Still = Once
-turn-next t a b c Once = Twice
-turn-next t a b c Twice = Still
-
 pub turn-depth : (t : Triangle) (a b c p : Corner) → IsTurn t a b c → deep a b c p ≡ deep t.a t.b t.c p
 turn-depth t a b c p Still = refl
 turn-depth t a b c p Once = sym (depth-turned (lift t.a) (lift t.b) (lift t.c) (lift p))
@@ -62,40 +56,6 @@ pub turn-valid : (t : Triangle) (a b c : Corner) → IsTurn t a b c → AreValid
 turn-valid t a b c Still v = record { a_in = v.a; b_in = v.b; c_in = v.c }
 turn-valid t a b c Once v = record { a_in = v.b; b_in = v.c; c_in = v.a }
 turn-valid t a b c Twice v = record { a_in = v.c; b_in = v.a; c_in = v.b }
-
--- ---- an owner's edge occurs
-pub owner-times : (ts : List Triangle) (t : Triangle) (k : ℕ) (a b c : Corner) → slice_get ts k ≡ Some t → IsTurn t a b c → 0 < count_by (is_same_edge (a, b)) (flat_map edges_of ts)
-owner-times [] t k a b c at turn = cc
-owner-times (x ∷ ts) t zero a b c at turn =
-    let same : x ≡ t = cc in
-    more (count_by (is_same_edge (a, b)) (edges_of x ++ flat_map edges_of ts)) (count_by (is_same_edge (a, b)) (edges_of x)) (count_by (is_same_edge (a, b)) (flat_map edges_of ts))
-    (sum_by-append (λ y. cond (is_same_edge (a, b) y) 1 0) (edges_of x) (flat_map edges_of ts)) (here x a b c (subst (λ (s : Triangle). IsTurn s a b c) (sym same) turn))
-  where
-    more : (m n r : ℕ) → m ≡ n + r → 0 < n → 0 < m
-    more m n r e h = omega (arith, e, h)
-
-    first : (x y z : Bool) → x ≡ true → 0 < 0 + cond x 1 0 + cond y 1 0 + cond z 1 0
-    first true y z e = omega arith
-    first false y z e = cc
-
-    second : (x y z : Bool) → y ≡ true → 0 < 0 + cond x 1 0 + cond y 1 0 + cond z 1 0
-    second x true z e = omega arith
-    second x false z e = cc
-
-    third : (x y z : Bool) → z ≡ true → 0 < 0 + cond x 1 0 + cond y 1 0 + cond z 1 0
-    third x y true e = omega arith
-    third x y false e = cc
-
-    here : (x : Triangle) (a b c : Corner) → IsTurn x a b c → 0 < count_by (is_same_edge (a, b)) (edges_of x)
-    here x a b c Still = first (is_same_edge (x.a, x.b) (x.a, x.b)) (is_same_edge (x.a, x.b) (x.b, x.c)) (is_same_edge (x.a, x.b) (x.c, x.a)) (edge-tells.self (x.a, x.b))
-    here x a b c Once = second (is_same_edge (x.b, x.c) (x.a, x.b)) (is_same_edge (x.b, x.c) (x.b, x.c)) (is_same_edge (x.b, x.c) (x.c, x.a)) (edge-tells.self (x.b, x.c))
-    here x a b c Twice = third (is_same_edge (x.c, x.a) (x.a, x.b)) (is_same_edge (x.c, x.a) (x.b, x.c)) (is_same_edge (x.c, x.a) (x.c, x.a)) (edge-tells.self (x.c, x.a))
-owner-times (x ∷ ts) t (suc k) a b c at turn =
-    more (count_by (is_same_edge (a, b)) (edges_of x ++ flat_map edges_of ts)) (count_by (is_same_edge (a, b)) (edges_of x)) (count_by (is_same_edge (a, b)) (flat_map edges_of ts))
-    (sum_by-append (λ y. cond (is_same_edge (a, b) y) 1 0) (edges_of x) (flat_map edges_of ts)) (owner-times ts t k a b c at turn)
-  where
-    more : (m n r : ℕ) → m ≡ n + r → 0 < r → 0 < m
-    more m n r e h = omega (arith, e, h)
 
 -- ---- a counted edge walls its own outside
 wall_of_itself : (p a b : Coords) → side a b p <ℤ pos 0 → Walls b a a p × Walls b a b p

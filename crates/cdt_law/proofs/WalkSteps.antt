@@ -8,22 +8,23 @@ use Rattle.ground_model.specs.declared.corner.Corner.TheVariants.{At, Far}
 use Rattle.ground_model.specs.Side.{side}
 use Rattle.ground_model.specs.Corner.{corner_at, corner_side, is_same_corner}
 use Rattle.ground_model.proofs.Circle.{side-turned}
-use Rattle.cdt_law.specs.Net.{Triangle, count_of, covers, has_corner, is_beyond}
-use Rattle.cdt_law.proofs.Edges.{corner-equal}
-use Rattle.cdt_law.proofs.Tiling.{left-of}
-use Rattle.cdt_law.proofs.FarSides.{far-side01, far-side12, far-side20}
-use Rattle.cdt_law.proofs.FarTriangle.{IsValid, Place, sheet-valid}
-use Rattle.cdt_law.proofs.Owners.{IsTurn, Still, Once, Twice, Owner, turn-side, owner-behind, IsFarEdge, From0, From1, From2}
-use Rattle.cdt_law.proofs.OneEdgeBeyond.{Leans, beyond_ab-bc, beyond_ab-ca}
+use Rattle.predicates.specs.Net.{Triangle, count_of, covers, has_corner, is_beyond}
+use Rattle.predicates.proofs.Edges.{corner-equal}
+use Rattle.predicates.proofs.Tiling.{left-of}
+use Rattle.predicates.proofs.FarSides.{far-side01, far-side12, far-side20}
+use Rattle.predicates.proofs.Valid.{IsValid, Place}
+use Rattle.predicates.proofs.FarTriangle.{sheet-valid}
+use Rattle.predicates.proofs.Owners.{IsTurn, Still, Once, Twice, Owner, turn-side, owner-behind, IsFarEdge, From0, From1, From2, turn-next, owner-times}
+use Rattle.predicates.proofs.OneEdgeBeyond.{Leans, beyond_ab-bc, beyond_ab-ca}
 use Rattle.cdt_law.proofs.Walls.{Between, walls-between}
 use Rattle.cdt_law.proofs.Ranks.{count-falls}
-use Rattle.cdt_law.proofs.HigherPlanes.{higher-after, depth-turned, planes-next, next-higher, next-deep}
-use Rattle.cdt_law.proofs.Heights.{lift, deep}
-use Rattle.cdt_law.proofs.PlanesBelow.{leans, lean_e, lean_n}
-use Rattle.cdt_law.proofs.NoFourInPlane.{not_flat}
-use Rattle.cdt_law.proofs.Walk.{Around, Walled, AllValid, turn-next, turn-depth, turn-of-side, turn-valid, owner-times, counted-wall}
-use Rattle.cdt_law.proofs.Signs.{negative-along, never-both, never-flat, never-level, positive-along}
-use Rattle.cdt_law.proofs.Sides.{flat_bc, flat_ca, positive-back, side-back}
+use Rattle.predicates.proofs.HigherPlanes.{higher-after, depth-turned, planes-next, next-higher, next-deep}
+use Rattle.predicates.proofs.Heights.{lift, deep}
+use Rattle.predicates.proofs.PlanesBelow.{leans, lean_e, lean_n}
+use Rattle.predicates.proofs.NoFourInPlane.{not_flat}
+use Rattle.cdt_law.proofs.Walk.{Around, Walled, AllValid, turn-depth, turn-of-side, turn-valid, counted-wall}
+use Rattle.predicates.proofs.Signs.{negative-along, never-both, never-flat, never-level, positive-along}
+use Rattle.predicates.proofs.FlatSides.{flat_bc, flat_ca, positive-back, side-back}
 
 -- p lies strictly to the right of xy
 abbrev Beyond : Around → Corner → Corner → Type 0

@@ -13,8 +13,8 @@ use Rattle.ground_model.specs.Wall.{meets, is_walled}
 use Rattle.ground_model.proofs.Ring.{◌⊖◌, ring}
 use Rattle.ground_model.proofs.Circle.{env, sideE}
 use Rattle.cdt_law.proofs.Walls.{Walls}
-use Rattle.cdt_law.proofs.Signs.{level-down, level-up, never-both, never-level, never-low, weaken, weaken-neg}
-use Rattle.cdt_law.proofs.Sides.{side-back}
+use Rattle.predicates.proofs.Signs.{level-down, level-up, never-both, never-level, never-low, weaken, weaken-neg}
+use Rattle.predicates.proofs.FlatSides.{side-back}
 
 -- what an orientation tells of its side
 abbrev Shows : Ordering → ℤ → Type 0

@@ -7,7 +7,7 @@ use Rattle.ground_model.specs.Side.{side}
 use Rattle.ground_model.proofs.Ring.{num, ◌⊕◌, ◌⊖◌, ◌⊗◌, ring}
 use Rattle.ground_model.proofs.Circle.{sideE}
 use Rattle.ground_model.proofs.ZOrder.{mul-positive}
-use Rattle.cdt_law.proofs.Signs.{mul-nonneg, mul-mixed, mul-negative, positive-less, weaken}
+use Rattle.predicates.proofs.Signs.{mul-nonneg, mul-mixed, mul-negative, positive-less, weaken}
 
 -- uv, with p strictly to its left, walls p from a
 pub record Walls (u v a p : Coords) : Type 0 where

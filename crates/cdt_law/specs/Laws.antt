@@ -11,9 +11,9 @@ use Rattle.ground_model.specs.Corner.{corner_at, is_corner_inside}
 use Rattle.ground_model.specs.Content.{Content, points_of}
 use Rattle.ground_model.specs.Tri.{tri}
 use Rattle.ground_model.specs.Mark.{is_among, is_same_facet, edges}
-use Rattle.cdt_law.specs.Net.{Net, Triangle, has, is_beyond, facets_of, tri_of, net_over}
-use Rattle.cdt_law.specs.Sheet.{IsSheet, IsLocallyDelaunay}
-use Rattle.cdt_law.specs.Tiling.{far_triangle}
+use Rattle.predicates.specs.Net.{Net, Triangle, has, is_beyond, facets_of, tri_of, net_over}
+use Rattle.predicates.specs.Sheet.{IsSheet, IsLocallyDelaunay}
+use Rattle.predicates.specs.Tiling.{far_triangle}
 
 -- the net of no point, whose one triangle is that of the far corners
 abbrev pub first_net : Net

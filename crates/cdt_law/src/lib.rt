@@ -1,28 +1,13 @@
 //! Laws of sheets, the triangulations of a mesh that reaches to the far corners: a sheet tiles, and a locally Delaunay one
-//! is the constrained Delaunay triangulation, of which there is only one. It never asks how a sheet is kept or made.
+//! is the constrained Delaunay triangulation, of which there is only one; and laws of flips. It never asks how a sheet is kept.
 #![tactic(auto)]
 
+ghost use Rattle.cdt_law.specs.Flips.{DestroyedLaw, EditLaw, FallLaw, FlipLaw, KeptLaw};
 ghost use Rattle.cdt_law.specs.Laws.{EdgeLaw, FacetLaw, FirstLaw, LocalLaw, NetLaw, OnceLaw, UniqueLaw};
-ghost use Rattle.cdt_law.specs.Tiling.{Covers, NeverCross, Packs};
 
 /// The triangle of the far corners alone is a locally Delaunay sheet of no points: the laws below are about something.
 pub fn first_law()
     ensures { FirstLaw }
-{}
-
-/// Each sum of places lies in a closed triangle of the sheet.
-pub fn cover_law()
-    ensures { Covers }
-{}
-
-/// No weighted point lies strictly inside two triangles of a sheet.
-pub fn pack_law()
-    ensures { Packs }
-{}
-
-/// No two edges of a sheet cross.
-pub fn cross_law()
-    ensures { NeverCross }
 {}
 
 /// A sheet has no facet twice.
@@ -55,4 +40,34 @@ pub fn unique_law()
 /// Two facets of a content with a directed edge in common are one, also where its pieces cross.
 pub fn edge_law()
     ensures { EdgeLaw }
+{}
+
+/// The flip of an edge that is no piece and is not locally Delaunay (Lawson 1977) destroys no facet of the sheet's own
+/// points and pieces: neither of the two triangles over it is one.
+pub fn flip_law()
+    ensures { FlipLaw }
+{}
+
+/// A triangle taken out of a sheet is no facet of another net, for one of five reasons: such a flip took it out, from
+/// either side, and the other net has no pieces but those of the sheet; a piece of the other net crosses it; its corner is
+/// no point there; or it has a point there. Each kind of edit has its reasons among these.
+pub fn destroyed_law()
+    ensures { DestroyedLaw }
+{}
+
+/// What an edit takes out of one of its sheets is not both a facet before and after: a facet that stays is never taken
+/// out. The sheets between the pieces of a line are those of no content.
+pub fn edit_law()
+    ensures { EditLaw }
+{}
+
+/// A flip within a strictly convex quadrilateral, of an edge that is no piece, keeps a sheet.
+pub fn kept_law()
+    ensures { KeptLaw }
+{}
+
+/// The flip of an edge that is no piece and is not locally Delaunay keeps a sheet, and lowers the volume below its lifted
+/// triangles, a natural number. So however such flips are chosen, they come to an end.
+pub fn fall_law()
+    ensures { FallLaw }
 {}

@@ -1,25 +1,75 @@
--- Where the sum of the squares is not zero its sign tells what is inside.
-use Rattle.std.proofs.Common.{◌≡◌, sym, ◌∙◌, arith, true, false}
-use Rattle.std.specs.Prelude.{ℤ, pos, ◌<ℤ◌, ◌≤ℤ◌, int_lt}
-use Rattle.std.proofs.lemmas.Int.{ints, by_lt_z}
-use Rattle.ground_model.specs.Place.{Coords, ArePlaces}
-use Rattle.ground_model.specs.Height.{in_circle_sum, is_inside}
-use Rattle.ground_model.proofs.Lifted.{inside_positive, inside_negative}
+-- Signs of whole numbers and of products.
+use Rattle.std.proofs.Common.{◌≡◌, zero, suc, arith}
+use Rattle.std.specs.Prelude.{ℤ, pos, negsuc, neg_ℤ, ◌-ℤ◌, ◌*ℤ◌, ◌<ℤ◌, ◌≤ℤ◌}
+use Rattle.std.proofs.lemmas.Int.{ints}
 
-pub inside-sum : (a b c d : Coords) → ArePlaces a b c d → ¬ (in_circle_sum a b c d ≡ pos 0) → int_lt (pos 0) (in_circle_sum a b c d) ≡ is_inside a b c d
-inside-sum a b c d p some = by_lt_z (pos 0) (in_circle_sum a b c d)
-    (λ more. positive (in_circle_sum a b c d) more ∙ sym (inside_positive a b c d p more))
-    (λ le. negative (in_circle_sum a b c d) le ∙ sym (inside_negative a b c d p (below (in_circle_sum a b c d) some le)))
-  where
-    positive : (x : ℤ) → pos 0 <ℤ x → int_lt (pos 0) x ≡ true
-    positive x h =
-        let t : true ≡ int_lt (pos 0) x = omega (arith, ints) in
-        sym t
+-- ---- signs that are weaker
+pub weaken : (x : ℤ) → pos 0 <ℤ x → pos 0 ≤ℤ x
+weaken x h = omega (arith, ints, h)
 
-    negative : (x : ℤ) → x ≤ℤ pos 0 → int_lt (pos 0) x ≡ false
-    negative x h =
-        let t : false ≡ int_lt (pos 0) x = omega (arith, ints) in
-        sym t
+pub weaken-neg : (x : ℤ) → x <ℤ pos 0 → x ≤ℤ pos 0
+weaken-neg x h = omega (arith, ints, h)
 
-    below : (x : ℤ) → ¬ (x ≡ pos 0) → x ≤ℤ pos 0 → x <ℤ pos 0
-    below x some h = by_lt_z x (pos 0) (λ lt. lt) (λ ge. absurd (some (omega (arith, ints))))
+pub level-up : (x : ℤ) → x ≡ pos 0 → pos 0 ≤ℤ x
+level-up x e = omega (arith, ints, e)
+
+pub level-down : (x : ℤ) → x ≡ pos 0 → x ≤ℤ pos 0
+level-down x e = omega (arith, ints, e)
+
+-- ---- signs that clash
+pub never-level : (x : ℤ) → pos 0 <ℤ x → x ≡ pos 0 → ⊥
+never-level x h e = omega (arith, ints, h, e)
+
+pub never-flat : (x : ℤ) → x <ℤ pos 0 → x ≡ pos 0 → ⊥
+never-flat x h e = omega (arith, ints, h, e)
+
+pub never-both : (x : ℤ) → pos 0 <ℤ x → x <ℤ pos 0 → ⊥
+never-both x h k = omega (arith, ints, h, k)
+
+pub never-low : (x : ℤ) → pos 0 <ℤ x → x ≤ℤ pos 0 → ⊥
+never-low x h k = omega (arith, ints, h, k)
+
+pub never-high : (x : ℤ) → pos 0 ≤ℤ x → x <ℤ pos 0 → ⊥
+never-high x h k = omega (arith, ints, h, k)
+
+-- ---- signs along an equation
+pub positive-along : (x y : ℤ) → x ≡ y → pos 0 <ℤ y → pos 0 <ℤ x
+positive-along x y e h = omega (arith, ints, e, h)
+
+pub negative-along : (x y : ℤ) → x ≡ y → y <ℤ pos 0 → x <ℤ pos 0
+negative-along x y e h = omega (arith, ints, e, h)
+
+pub positive-neg : (x y : ℤ) → y ≡ neg_ℤ x → x <ℤ pos 0 → pos 0 <ℤ y
+positive-neg x y e h = omega (arith, ints, e, h)
+
+pub negative-neg : (x y : ℤ) → y ≡ neg_ℤ x → pos 0 <ℤ x → y <ℤ pos 0
+negative-neg x y e h = omega (arith, ints, e, h)
+
+pub positive-less : (x : ℤ) → x <ℤ pos 0 → pos 0 <ℤ (pos 0 -ℤ x)
+positive-less x h = omega (arith, ints, h)
+
+-- ---- signs of products
+
+pub mul-nonneg : (x y : ℤ) → pos 0 ≤ℤ x → pos 0 ≤ℤ y → pos 0 ≤ℤ (x *ℤ y)
+mul-nonneg (pos m) (pos n) h k = omega (arith, ints)
+mul-nonneg (negsuc m) y h k = absurd (omega (arith, ints, h))
+mul-nonneg x (negsuc n) h k = absurd (omega (arith, ints, k))
+
+pub mul-nonpos : (x y : ℤ) → x ≤ℤ pos 0 → y ≤ℤ pos 0 → pos 0 ≤ℤ (x *ℤ y)
+mul-nonpos (negsuc m) (negsuc n) h k = omega (arith, ints)
+mul-nonpos (pos zero) y h k = omega (arith, ints)
+mul-nonpos x (pos zero) h k = omega (arith, ints)
+mul-nonpos (pos (suc m)) y h k = absurd (omega (arith, ints, h))
+mul-nonpos x (pos (suc n)) h k = absurd (omega (arith, ints, k))
+
+pub mul-mixed : (x y : ℤ) → pos 0 ≤ℤ x → y ≤ℤ pos 0 → (x *ℤ y) ≤ℤ pos 0
+mul-mixed (pos m) (negsuc n) h k = omega (arith, ints)
+mul-mixed x (pos zero) h k = omega (arith, ints)
+mul-mixed (negsuc m) y h k = absurd (omega (arith, ints, h))
+mul-mixed x (pos (suc n)) h k = absurd (omega (arith, ints, k))
+
+pub mul-negative : (x y : ℤ) → pos 0 <ℤ x → y <ℤ pos 0 → (x *ℤ y) <ℤ pos 0
+mul-negative (pos (suc m)) (negsuc n) h k = omega (arith, ints)
+mul-negative (pos zero) y h k = absurd (omega (arith, ints, h))
+mul-negative (negsuc m) y h k = absurd (omega (arith, ints, h))
+mul-negative x (pos n) h k = absurd (omega (arith, ints, k))

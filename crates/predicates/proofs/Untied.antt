@@ -2,14 +2,14 @@
 use Rattle.std.proofs.Common.{◌≡◌, ℕ, ◌<◌, ◌≢◌, refl, sym, ap, ◌∙◌, arith, true, false, [], ◌∷◌, ⊎_elim}
 use Rattle.std.specs.Prelude.{ℤ, pos, ◌+ℤ◌, ◌-ℤ◌, ◌*ℤ◌, ◌<ℤ◌, int_lt, neg_ℤ}
 use Rattle.std.proofs.lemmas.Int.{ints, by_lt_z}
-use Rattle.ground_model.specs.Place.{Coords, IsPlace, ArePlaces}
+use Rattle.ground_model.specs.Place.{Coords, ArePlaces}
 use Rattle.ground_model.specs.Side.{side}
 use Rattle.ground_model.specs.Height.{code, height, in_circle_sum, is_inside}
 use Rattle.ground_model.specs.Lifted.{is_below}
 use Rattle.ground_model.proofs.Ring.{num, ◌⊖◌, ring, mul-neg}
-use Rattle.ground_model.proofs.Circle.{env, sideE, in_circle_sumE, side-turned, side-same, no_three, same_coords}
+use Rattle.ground_model.proofs.Circle.{env, sideE, in_circle_sumE, side-turned, no_three}
 use Rattle.ground_model.proofs.Lifted.{inside_positive}
-use Rattle.ground_model.proofs.Ties.{tie_at_a, tie_at_d, turns_of_left}
+use Rattle.ground_model.proofs.Ties.{tie_at_a, tie_at_d, turns_of_left, apart, turn_apart}
 use Rattle.predicates.specs.Laws.{NeverTies}
 
 -- the lifted d is in the plane of the lifted a, b, c
@@ -93,19 +93,6 @@ not_least a b c d p e some lb lc ld = some (both_not (side b c d) (side c b d) (
 
     both_not : (x y : ℤ) → y ≡ neg_ℤ x → int_lt x (pos 0) ≡ false → int_lt y (pos 0) ≡ false → x ≡ pos 0
     both_not x y e h k = omega (arith, ints, e, h, k)
-
-code-injective : (p q : Coords) → IsPlace p → IsPlace q → code p ≡ code q → p ≡ q
-code-injective p q h k e = same_coords p q (omega (arith, ints, h.west, h.east, h.south, h.north, k.west, k.east, k.south, k.north, e)) (omega (arith, ints, h.west, h.east, h.south, h.north, k.west, k.east, k.south, k.north, e))
-
-apart : (p q : Coords) → IsPlace p → IsPlace q → ¬ (p ≡ q) → code p ≢ code q
-apart p q h k differ e = differ (code-injective p q h k e)
-
--- three that turn have no two alike
-turn_apart : (a b c : Coords) → pos 0 <ℤ side a b c → ¬ (a ≡ b)
-turn_apart a b c turns e = flat (side a b c) turns (ap (λ k. side k b c) e ∙ side-same b c)
-  where
-    flat : (x : ℤ) → pos 0 <ℤ x → x ≡ pos 0 → ⊥
-    flat x h k = omega (arith, ints, k)
 
 -- one of four distinct numbers is the least
 none_least : (ka kb kc kd : ℕ) → ka ≢ kb → ka ≢ kc → ka ≢ kd → kb ≢ kc → kb ≢ kd → kc ≢ kd

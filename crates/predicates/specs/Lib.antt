@@ -1,2 +1,10 @@
 pub mod Sign
 pub mod Laws
+pub mod Far
+pub mod Depth
+pub mod Net
+pub mod Sheet
+pub mod Sums
+pub mod Weighted
+pub mod HalfOpen
+pub mod Tiling

@@ -5,6 +5,7 @@
 mod circle;
 mod corner;
 mod crossing;
+mod far;
 mod laws;
 mod sides;
 mod sign;
@@ -16,11 +17,13 @@ pub use circle::is_inside;
 pub use corner::{in_circle, side};
 pub use crossing::crosses;
 pub use ground_model::Corner;
-pub use laws::tie_law;
+pub use laws::{closed_law, cover_law, cross_law, owner_law, pack_law, tie_law};
 pub use sides::{exact_side, orientation};
 pub use sign::Sign;
 pub use triangle::{holds, triangle_holds};
 pub use wall::walled;
 
+#[cfg(test)]
+mod far_tests;
 #[cfg(test)]
 mod tests;

@@ -7,7 +7,6 @@ ghost use Rattle.predicates.specs.Sign.{sign};
 use crate::sign::Sign;
 use crate::vector::Vector;
 use ground_model::Place;
-use std::cmp::Ordering;
 
 /// The orientation of a, b, c: positive where they turn counterclockwise, zero where they are
 /// collinear. Two multiplications and a comparison.
@@ -15,11 +14,7 @@ use std::cmp::Ordering;
 pub fn orientation(a: Place, b: Place, c: Place) -> Sign
     ensures { result ≡ sign (orientation_of a b c) }
 {
-    match exact_side(a, b, c).cmp(&0) {
-        Ordering::Less => Sign::Negative,
-        Ordering::Equal => Sign::Zero,
-        Ordering::Greater => Sign::Positive,
-    }
+    Sign::of(exact_side(a, b, c).cmp(&0))
 }
 
 /// Whether a, b, c turn clockwise.

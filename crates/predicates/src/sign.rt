@@ -2,7 +2,9 @@
 
 ghost use Rattle.std.specs.Prelude.{◌≡◌};
 ghost use Rattle.std.specs.Ordering.{is_lt, is_eq, is_gt};
-ghost use Rattle.predicates.specs.Sign.{order};
+ghost use Rattle.predicates.specs.Sign.{order, sign};
+
+use std::cmp::Ordering;
 
 /// Which way three places turn: clockwise, not at all, or counterclockwise.
 #[derive(Clone, Copy, Debug, PartialEq, Eq)]
@@ -13,6 +15,18 @@ pub enum Sign {
 }
 
 impl Sign {
+    /// By how a number compares with zero.
+    #[inline]
+    pub(crate) fn of(order: Ordering) -> Sign
+        ensures { result ≡ sign order }
+    {
+        match order {
+            Ordering::Less => Sign::Negative,
+            Ordering::Equal => Sign::Zero,
+            Ordering::Greater => Sign::Positive,
+        }
+    }
+
     /// Whether the three turn clockwise.
     #[inline]
     pub fn is_negative(self) -> bool

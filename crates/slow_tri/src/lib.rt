@@ -8,4 +8,6 @@ mod triples;
 pub use triples::{FacetList, facets};
 
 #[cfg(test)]
+mod sheet_tests;
+#[cfg(test)]
 mod tests;

@@ -1,15 +1,15 @@
 //! Triangulations worked out by hand. Places are written easting first.
 
-use crate::facets;
+use crate::{FacetList, facets};
 use ground_model::{Facet, Piece, Place};
 use std::alloc::Global;
 use std::process::Abort;
 use std::test::Fail;
 
-type At = (i32, i32);
+pub(crate) type At = (i32, i32);
 
 /// The ends of a piece and its count.
-type Joined = (At, At, u16);
+pub(crate) type Joined = (At, At, u16);
 
 /// The corners of a facet and the counts of its edges.
 type Corners = ([At; 3], [u16; 3]);
@@ -56,6 +56,18 @@ fn compare(rt: &impl Abort, found: &[Facet], want: &[Corners]) {
     }
 }
 
+/// The facets of these points and pieces.
+pub(crate) fn found(
+    rt: &impl Abort,
+    alloc: Global,
+    ats: &[At],
+    joined: &[Joined],
+) -> Result<FacetList, Fail> {
+    let points = places(rt, alloc, ats)?;
+    let pieces = pieces(rt, alloc, joined)?;
+    Ok(facets(alloc, points.as_slice(), pieces.as_slice())?)
+}
+
 fn check(
     rt: &impl Abort,
     alloc: Global,
@@ -63,9 +75,7 @@ fn check(
     joined: &[Joined],
     want: &[Corners],
 ) -> Result<(), Fail> {
-    let points = places(rt, alloc, ats)?;
-    let pieces = pieces(rt, alloc, joined)?;
-    let found = facets(alloc, points.as_slice(), pieces.as_slice())?;
+    let found = found(rt, alloc, ats, joined)?;
     compare(rt, found.as_slice(), want);
     Ok(())
 }

@@ -3,7 +3,7 @@ use Rattle.std.specs.Prelude.{int_lt}
 use mir.Syntax.{w128}
 use Rattle.std.proofs.lemmas.Int.{ints}
 use Rattle.predicates.proofs.Sizes.{read_is}
-use Rattle.predicates.proofs.Signs.{inside-sum}
+use Rattle.predicates.proofs.InsideSum.{inside-sum}
 use Rattle.predicates.proofs.Corners.{tie_anywhere}
 use Rattle.predicates.proofs.circle.is_inside.Goals as goal
 

@@ -1,10 +1,14 @@
 use Rattle.std.proofs.Common.{sym, ◌∙◌}
-use Rattle.ground_model.specs.Height.{is_inside}
-use Rattle.predicates.proofs.Places.{is_corner_inside-at}
+use Rattle.ground_model.specs.Corner.{is_corner_inside}
+use Rattle.ground_model.proofs.Corners.{is_corner_inside-places}
 use Rattle.predicates.proofs.corner.in_circle.Goals as goal
 
-pub returns : goal.returns
-returns c =
+pub returns-else-is_far : goal.returns-else-is_far
+returns-else-is_far c =
+    let a = c.place_of.ensures.corner in
+    let b = c.place_of-else-is_far.ensures.corner in
+    let d = c.place_of-else-is_far-2.ensures.corner in
+    let e = c.place_of-else-is_far-3.ensures.corner in
     c.is_inside.ensures
-    ∙ (λ i. is_inside (c.place_of.ensures i) (c.place_of-2.ensures i) (c.place_of-3.ensures i) (c.place_of-4.ensures i))
-    ∙ sym (is_corner_inside-at c.args.a c.args.b c.args.c c.args.d c.requires.a c.requires.b c.requires.c c.requires.d)
+    ∙ sym (is_corner_inside-places c.place_of.result c.place_of-else-is_far.result c.place_of-else-is_far-2.result c.place_of-else-is_far-3.result)
+    ∙ (λ i. is_corner_inside (a i) (b i) (d i) (e i))
