@@ -1,0 +1,12 @@
+pub mod Corners
+pub mod Exchange
+pub mod Exchanged
+pub mod Filled
+pub mod Patched
+pub mod Redirected
+pub mod Shape
+pub mod Slots
+pub mod Splits
+pub mod Takes
+pub mod TurnedSlots
+pub mod WrittenSlots

@@ -1,0 +1,7 @@
+pub mod Corners
+pub mod Faces
+pub mod Meshes
+pub mod Net
+pub mod Redirects
+pub mod Splits
+pub mod Takes

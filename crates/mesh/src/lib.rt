@@ -1,0 +1,10 @@
+//! The net of a mesh's triangles, on slots that versions share, and the steps that change it.
+//! It never asks where a corner lies.
+#![tactic(auto)]
+
+mod read;
+mod redirect;
+mod seen;
+mod split;
+mod take;
+mod writes;
