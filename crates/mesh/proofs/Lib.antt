@@ -1,7 +1,11 @@
+pub mod Acrosses
 pub mod Corners
+pub mod Counts
+pub mod EdgeSplits
 pub mod Exchange
 pub mod Exchanged
 pub mod Filled
+pub mod Flips
 pub mod Patched
 pub mod Redirected
 pub mod Shape

@@ -1,5 +1,9 @@
+pub mod Acrosses
 pub mod Corners
+pub mod Counts
+pub mod EdgeSplits
 pub mod Faces
+pub mod Flips
 pub mod Meshes
 pub mod Net
 pub mod Redirects

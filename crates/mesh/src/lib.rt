@@ -2,6 +2,10 @@
 //! It never asks where a corner lies.
 #![tactic(auto)]
 
+mod across;
+mod count;
+mod edge_split;
+mod flip;
 mod read;
 mod redirect;
 mod seen;
