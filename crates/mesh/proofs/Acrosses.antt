@@ -90,3 +90,11 @@ pub no_edge_back : (slots : List State) (a b : Corner) → IsMesh slots → HasN
 no_edge_back slots a b mesh unjoined = λ s k e there tail head.
     let m = mesh.net.met s k e there in
     unjoined m.slot m.side m.edge m.there (m.back_tail ∙ head) (m.back_head ∙ tail)
+
+-- a triangle has no fourth corner
+pub foreign : (t : TriSlot) (k y : Side) (c : Corner) → corner_at t y ≡ c → (corner_at t k ≡ c → ⊥) → (corner_at t (after k) ≡ c → ⊥) → (apex t k ≡ c → ⊥) → ⊥
+foreign t k y c e a b d = elim (around k y) as (λ _. ⊥) [
+  | itself h ↦ a (sym (ap (corner_at t) h) ∙ e)
+  | one_on h ↦ b (sym (ap (corner_at t) h) ∙ e)
+  | two_on h ↦ d (sym (ap (corner_at t) h) ∙ e)
+]

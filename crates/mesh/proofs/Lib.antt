@@ -6,6 +6,7 @@ pub mod Exchange
 pub mod Exchanged
 pub mod Filled
 pub mod Flips
+pub mod FreedSlots
 pub mod Patched
 pub mod Redirected
 pub mod Shape
@@ -13,4 +14,5 @@ pub mod Slots
 pub mod Splits
 pub mod Takes
 pub mod TurnedSlots
+pub mod Unsplits
 pub mod WrittenSlots

@@ -9,3 +9,4 @@ pub mod Net
 pub mod Redirects
 pub mod Splits
 pub mod Takes
+pub mod Unsplits

@@ -11,4 +11,5 @@ mod redirect;
 mod seen;
 mod split;
 mod take;
+mod unsplit;
 mod writes;

@@ -88,3 +88,12 @@ pub(crate) fn edge_from(t: &TriSlot, corner: &Corner) -> u8
         2
     }
 }
+
+/// The next edge, counterclockwise.
+pub(crate) fn edge_after(edge: u8) -> u8
+    requires { edge < 3 }
+    ensures edge { result < 3 }
+    ensures after { side result ≡ after (side edge) }
+{
+    if edge == 2 { 0 } else { edge + 1 }
+}
