@@ -2,6 +2,7 @@ pub mod Acrosses
 pub mod Corners
 pub mod Counts
 pub mod EdgeSplits
+pub mod EdgeUnsplits
 pub mod Exchange
 pub mod Exchanged
 pub mod Filled

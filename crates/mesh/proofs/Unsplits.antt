@@ -67,6 +67,20 @@ freed_apart slots s f g k j l t u v mesh here a e same =
     not_one t u v k j l (real s t here) (real f u a.ahead.there) (real g v a.before.there) (three_round slots t u v k j l f g a e)
     (same_in u v (sym a.ahead.there ∙ ap (triangle_at slots) same ∙ a.before.there))
 
+-- where no face is, no triangle is
+pub no_face : (o : Option TriSlot) → option_map face o ≡ None → o ≡ None
+no_face None e = refl
+no_face (Some w) e = absurd (none-some (face w) (sym e))
+
+free_by : (o : State) → (o ≡ blank → ⊥) → joined o ≡ None → o ≡ free
+free_by None ne e = refl
+free_by (Some None) ne e = absurd (ne refl)
+free_by (Some (Some w)) ne e = absurd (none-some w (sym e))
+
+-- in a mesh a slot without a triangle is free
+pub free_in_mesh : (slots : List State) (i : ℕ) → (i ≡ outside → ⊥) → IsMesh slots → slots_of slots i ≡ None → state_at slots i ≡ free
+free_in_mesh slots i live mesh e = free_by (state_at slots i) (mesh.whole i) (sym (slot_in slots i live) ∙ e)
+
 -- the pages `old`, with a slot written (p1), two given back (p2) and two neighbours turned (p3, new)
 pub record UnsplitRun (old p1 p2 p3 new : List State) (s f g : ℕ) (k j l : Side) (t u v : TriSlot) : Type 0 where
   pub mesh : IsMesh old
@@ -207,19 +221,6 @@ module _ (old p1 p2 p3 new : List State) (s f g : ℕ) (k j l : Side) (t u v : T
   faces : (i : ℕ) → face_at (slots_of new) i ≡ face_at (slots_of p2) i
   faces i = r.kept2.faces i ∙ r.kept1.faces i
 
-  no_face : (o : Option TriSlot) → option_map face o ≡ None → o ≡ None
-  no_face None e = refl
-  no_face (Some w) e = absurd (none-some (face w) (sym e))
-
-  -- in a mesh a slot without a triangle is free
-  free_by : (o : State) → (o ≡ blank → ⊥) → joined o ≡ None → o ≡ free
-  free_by None ne e = refl
-  free_by (Some None) ne e = absurd (ne refl)
-  free_by (Some (Some w)) ne e = absurd (none-some w (sym e))
-
-  free_at : (i : ℕ) → (i ≡ outside → ⊥) → slots_of p2 i ≡ None → state_at new i ≡ free
-  free_at i live e = free_by (state_at new i) (unsplit_mesh.whole i) (sym (slot_in new i live) ∙ no_face (slots_of new i) (faces i ∙ ap (option_map face) e))
-
   pub unsplit_is : IsUnsplit old new s k f g
   unsplit_is = record {
     tri = t;
@@ -230,7 +231,7 @@ module _ (old p1 p2 p3 new : List State) (s f g : ℕ) (k j l : Side) (t u v : T
     here = r.here;
     around = r.around;
     in_s = faces s ∙ ap (option_map face) written;
-    f_free = free_at f r.f_real r.freed.out_f;
-    g_free = free_at g r.g_real r.freed.out_g;
+    f_free = free_in_mesh new f r.f_real unsplit_mesh (no_face (slots_of new f) (faces f ∙ ap (option_map face) r.freed.out_f));
+    g_free = free_in_mesh new g r.g_real unsplit_mesh (no_face (slots_of new g) (faces g ∙ ap (option_map face) r.freed.out_g));
     rest = λ i a b c. faces i ∙ ap (option_map face) (r.freed.rest i b c ∙ r.wrote.rest i a);
   }

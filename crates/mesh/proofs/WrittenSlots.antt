@@ -12,6 +12,7 @@ pub record WroteTwo (pages new : List State) (s n : ℕ) (one two : TriSlot) : T
   pub rest : (i : ℕ) → (i ≡ s → ⊥) → (i ≡ n → ⊥) → slots_of new i ≡ slots_of pages i
   pub blanks : (i : ℕ) → state_at new i ≡ blank → (i ≡ s → ⊥) × (i ≡ n → ⊥) × (state_at pages i ≡ blank)
   pub len : length new ≡ length pages
+  pub taken : (i : ℕ) → IsTaken pages i → IsTaken new i
 
 pub record WroteThree (pages new : List State) (s f g : ℕ) (one two three : TriSlot) : Type 0 where
   pub in_s : slots_of new s ≡ Some one
@@ -44,6 +45,7 @@ two pages s n x y s_live n_live apart s_in n_in =
           let c = blank_set pages s x i s_in b.was in
           (c.other, b.other, c.was);
       len = length-set once n (holding y) ∙ length-set pages s (holding x);
+      taken = λ i h. taken_set once n y i n_taken (taken_set pages s x i s_in h);
     }
 
 three : (pages : List State) (s f g : ℕ) (x y z : TriSlot) → (s ≡ outside → ⊥) → (f ≡ outside → ⊥) → (g ≡ outside → ⊥) → (s ≡ f → ⊥) → (s ≡ g → ⊥) → (f ≡ g → ⊥)

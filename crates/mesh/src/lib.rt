@@ -5,6 +5,7 @@
 mod across;
 mod count;
 mod edge_split;
+mod edge_unsplit;
 mod flip;
 mod read;
 mod redirect;
