@@ -14,10 +14,10 @@ use tri_pages::{TriPages, TriSlot};
 
 /// The triangle across an edge: its slot, and its edge that is this one the other way.
 #[derive(Clone, Copy)]
-pub(crate) struct Across {
-    pub(crate) slot: u32,
-    pub(crate) tri: TriSlot,
-    pub(crate) edge: u8,
+pub struct Across {
+    pub slot: u32,
+    pub tri: TriSlot,
+    pub edge: u8,
 }
 
 /// Reads what stands across an edge of a triangle of the mesh, at one page step.
@@ -33,7 +33,6 @@ pub(crate) fn read_across<L: Ledger>(
     requires inner { next_at t.now (side edge) ≡ outside → ⊥ }
     ensures edge { result.edge < 3 }
     ensures across { IsAcross pages.now t.now (side edge) result.slot result.tri (side result.edge) }
-    ensures cost { steps.new ≡ steps.old + 1 }
 {
     let seen = seen_from(t, edge);
     let tri = read_live(pages, seen.beyond_ab, steps);

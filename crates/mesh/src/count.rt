@@ -1,10 +1,12 @@
 //! The count of an edge is changed.
 
-ghost use Rattle.std.specs.Prelude.{◌≡◌, ◌<◌, ◌+◌, ◌≤◌, OnOk, IfOk};
+ghost use Rattle.std.specs.Prelude.{◌≡◌, ◌<◌, Some, OnOk, IfOk};
+ghost use Rattle.tri_pages.specs.Slots.{triangle_at};
+ghost use Rattle.tri_pages.specs.declared.tri_slot.TriSlot.{TriSlot};
 ghost use Rattle.mesh.specs.Acrosses.{IsInner, HasTwoApexes};
-ghost use Rattle.mesh.specs.Counts.{IsRecounted, recounted};
+ghost use Rattle.mesh.specs.Recounts.{IsRecounted, recounted};
 ghost use Rattle.mesh.specs.Meshes.{IsMesh, IsLive};
-ghost use Rattle.mesh.specs.Net.{side};
+ghost use Rattle.mesh.specs.Net.{side, count_at};
 
 use crate::across::{Across, read_across};
 use crate::read::read_live;
@@ -12,7 +14,7 @@ use crate::seen::seen_from;
 use crate::writes::write_two;
 use page_vec::Steps;
 use std::alloc::AllocError;
-use std::sync::ledger::Ledger;
+use std::sync::ledger::{Blank, Ledger};
 use tri_pages::{TriPages, TriSlot};
 
 // The triangle from an edge on, with this count there and this slot beyond.
@@ -35,8 +37,11 @@ pub(crate) fn set_count<L: Ledger>(
     slot: u32,
     edge: u8,
     count: u16,
-    steps: &mut Steps<L>,
+    blank: Blank,
 ) -> Result<u32, AllocError>
+    requires name { blank.name ≡ L.name }
+    requires parts { blank.parts ≡ L.parts }
+    requires writable { 0 < L.parts }
     requires edge { edge < 3 }
     requires mesh { IsMesh pages.old }
     requires live { IsLive pages.old slot }
@@ -44,8 +49,9 @@ pub(crate) fn set_count<L: Ledger>(
     requires two { HasTwoApexes pages.old slot (side edge) }
     ensures mesh { OnOk result (IsMesh pages.new) }
     ensures recounted { IfOk result (λ beyond. IsRecounted pages.old pages.new slot (side edge) beyond count) }
-    ensures cost { steps.new ≤ steps.old + 4 }
 {
+    let mut steps = Steps::<L>::new(blank);
+    let steps = &mut steps;
     let here = read_live(pages, slot, steps);
     let Across {
         slot: beyond,
@@ -56,4 +62,19 @@ pub(crate) fn set_count<L: Ledger>(
     let two = with_count(&tri, back, count, slot);
     write_two(pages, slot, one, beyond, two, steps)?;
     Ok(beyond)
+}
+
+/// The count of an edge of a live slot.
+pub(crate) fn count_of<L: Ledger>(pages: &TriPages, slot: u32, edge: u8, blank: Blank) -> u16
+    requires name { blank.name ≡ L.name }
+    requires parts { blank.parts ≡ L.parts }
+    requires writable { 0 < L.parts }
+    requires edge { edge < 3 }
+    requires live { IsLive pages.now slot }
+    ensures { (t : TriSlot) → triangle_at pages.now slot ≡ Some t → result ≡ count_at t (side edge) }
+{
+    let mut steps = Steps::<L>::new(blank);
+    let here = read_live(pages, slot, &mut steps);
+    let seen = seen_from(&here, edge);
+    seen.ab
 }

@@ -18,7 +18,7 @@ use crate::writes::write_four;
 use ground_model::Corner;
 use page_vec::Steps;
 use std::alloc::AllocError;
-use std::sync::ledger::Ledger;
+use std::sync::ledger::{Blank, Ledger};
 use tri_pages::{TriPages, TriSlot};
 
 // The triangle apc, of abc at its edge ab.
@@ -65,8 +65,11 @@ pub(crate) fn split_edge_slots<L: Ledger>(
     slot: u32,
     edge: u8,
     place: Corner,
-    steps: &mut Steps<L>,
+    blank: Blank,
 ) -> Result<EdgeParts, AllocError>
+    requires name { blank.name ≡ L.name }
+    requires parts { blank.parts ≡ L.parts }
+    requires writable { 0 < L.parts }
     requires edge { edge < 3 }
     requires mesh { IsMesh pages.old }
     requires live { IsLive pages.old slot }
@@ -75,8 +78,9 @@ pub(crate) fn split_edge_slots<L: Ledger>(
     requires no_corner { HasNoCorner pages.old place }
     ensures mesh { OnOk result (IsMesh pages.new) }
     ensures split { IfOk result (λ r. IsEdgeSplit pages.old pages.new slot (side edge) place r.beyond r.end r.back) }
-    ensures cost { steps.new ≤ steps.old + 12 }
 {
+    let mut steps = Steps::<L>::new(blank);
+    let steps = &mut steps;
     let here = read_live(pages, slot, steps);
     let Across {
         slot: beyond,

@@ -15,7 +15,7 @@ use crate::unsplit::give_two;
 use crate::writes::write_two;
 use page_vec::Steps;
 use std::alloc::AllocError;
-use std::sync::ledger::Ledger;
+use std::sync::ledger::{Blank, Ledger};
 use tri_pages::{TriPages, TriSlot};
 
 // The triangle abc, of apc at its edge ap and pbc at pb, with this slot beyond ab.
@@ -58,7 +58,6 @@ fn read_round<L: Ledger>(
     ensures below { result.below.edge < 3 }
     ensures under { result.under.edge < 3 }
     ensures four { AreFour pages.now here.now (side edge) result.ahead.slot result.ahead.tri (side result.ahead.edge) result.below.slot result.below.tri (side result.below.edge) result.under.slot result.under.tri (side result.under.edge) }
-    ensures cost { steps.new ≡ steps.old + 3 }
 {
     let ahead = read_across(pages, here, edge_after(edge), steps);
     let line = edge_after(ahead.edge);
@@ -90,15 +89,19 @@ pub(crate) fn unsplit_edge_slots<L: Ledger>(
     pages: &mut TriPages,
     slot: u32,
     edge: u8,
-    steps: &mut Steps<L>,
+    blank: Blank,
 ) -> Result<EdgeFreed, AllocError>
+    requires name { blank.name ≡ L.name }
+    requires parts { blank.parts ≡ L.parts }
+    requires writable { 0 < L.parts }
     requires edge { edge < 3 }
     requires mesh { IsMesh pages.old }
     requires unsplittable { IsEdgeUnsplittable pages.old slot (side edge) }
     ensures mesh { OnOk result (IsMesh pages.new) }
     ensures unsplit { IfOk result (λ r. IsEdgeUnsplit pages.old pages.new slot (side edge) r.ahead r.beyond r.under) }
-    ensures cost { steps.new ≤ steps.old + 12 }
 {
+    let mut steps = Steps::<L>::new(blank);
+    let steps = &mut steps;
     let here = read_live(pages, slot, steps);
     let round = read_round(pages, slot, &here, edge, steps);
     let ahead = round.ahead;

@@ -12,7 +12,7 @@ use crate::seen::seen_from;
 use crate::writes::write_two;
 use page_vec::Steps;
 use std::alloc::AllocError;
-use std::sync::ledger::Ledger;
+use std::sync::ledger::{Blank, Ledger};
 use tri_pages::{TriPages, TriSlot};
 
 // The triangle adc, of abc at its edge ab and bad across it.
@@ -53,15 +53,19 @@ pub(crate) fn flip_slots<L: Ledger>(
     pages: &mut TriPages,
     slot: u32,
     edge: u8,
-    steps: &mut Steps<L>,
+    blank: Blank,
 ) -> Result<u32, AllocError>
+    requires name { blank.name ≡ L.name }
+    requires parts { blank.parts ≡ L.parts }
+    requires writable { 0 < L.parts }
     requires edge { edge < 3 }
     requires mesh { IsMesh pages.old }
     requires flippable { IsFlippable pages.old slot (side edge) }
     ensures mesh { OnOk result (IsMesh pages.new) }
     ensures flipped { IfOk result (λ beyond. IsFlipped pages.old pages.new slot (side edge) beyond) }
-    ensures cost { steps.new ≤ steps.old + 8 }
 {
+    let mut steps = Steps::<L>::new(blank);
+    let steps = &mut steps;
     let here = read_live(pages, slot, steps);
     let Across {
         slot: beyond,

@@ -13,7 +13,7 @@ use crate::writes::write_three;
 use ground_model::Corner;
 use page_vec::Steps;
 use std::alloc::AllocError;
-use std::sync::ledger::Ledger;
+use std::sync::ledger::{Blank, Ledger};
 use tri_pages::{TriPages, TriSlot};
 
 // The triangle of an edge and the corner, with these slots beyond its other edges.
@@ -36,15 +36,19 @@ pub(crate) fn split_slots<L: Ledger>(
     pages: &mut TriPages,
     slot: u32,
     place: Corner,
-    steps: &mut Steps<L>,
+    blank: Blank,
 ) -> Result<(u32, u32), AllocError>
+    requires name { blank.name ≡ L.name }
+    requires parts { blank.parts ≡ L.parts }
+    requires writable { 0 < L.parts }
     requires mesh { IsMesh pages.old }
     requires live { IsLive pages.old slot }
     requires no_corner { HasNoCorner pages.old place }
     ensures mesh { OnOk result (IsMesh pages.new) }
     ensures split { IfOk result (λ r. IsSplit pages.old pages.new slot r.0 r.1 place) }
-    ensures cost { steps.new ≤ steps.old + 10 }
 {
+    let mut steps = Steps::<L>::new(blank);
+    let steps = &mut steps;
     let (second, third) = take_two(pages, steps)?;
     let t = read_live(pages, slot, steps);
     let one = part(&t, 0, &place, second, third);

@@ -32,7 +32,6 @@ pub(crate) fn take_two<L: Ledger>(
     steps: &mut Steps<L>,
 ) -> Result<(u32, u32), AllocError>
     ensures taking { IfOk result (λ r. IsTakingTwo pages.old pages.new r.0 r.1) }
-    ensures cost { steps.new ≤ steps.old + 2 }
 {
     let first = take_blank(pages, steps)?;
     let second = take_blank(pages, steps)?;

@@ -12,7 +12,7 @@ use crate::redirect::redirect;
 use crate::seen::{edge_after, seen_from};
 use page_vec::Steps;
 use std::alloc::AllocError;
-use std::sync::ledger::Ledger;
+use std::sync::ledger::{Blank, Ledger};
 use tri_pages::{TriPages, TriSlot};
 
 // The triangle abc, of abp at its edge ab, pbc at pb and apc at ap.
@@ -44,7 +44,6 @@ pub(crate) fn give_two<L: Ledger>(
     requires g { IsTaken pages.old g }
     requires apart { f ≡ g → ⊥ }
     ensures ok { OnOk result (pages.new ≡ slice_set (slice_set pages.old f free) g free) }
-    ensures cost { steps.new ≤ steps.old + 2 }
 {
     pages.give_back(f, steps)?;
     pages.give_back(g, steps)?;
@@ -64,15 +63,19 @@ pub(crate) fn unsplit_slots<L: Ledger>(
     pages: &mut TriPages,
     slot: u32,
     edge: u8,
-    steps: &mut Steps<L>,
+    blank: Blank,
 ) -> Result<Freed, AllocError>
+    requires name { blank.name ≡ L.name }
+    requires parts { blank.parts ≡ L.parts }
+    requires writable { 0 < L.parts }
     requires edge { edge < 3 }
     requires mesh { IsMesh pages.old }
     requires unsplittable { IsUnsplittable pages.old slot (side edge) }
     ensures mesh { OnOk result (IsMesh pages.new) }
     ensures unsplit { IfOk result (λ r. IsUnsplit pages.old pages.new slot (side edge) r.ahead r.before) }
-    ensures cost { steps.new ≤ steps.old + 10 }
 {
+    let mut steps = Steps::<L>::new(blank);
+    let steps = &mut steps;
     let here = read_live(pages, slot, steps);
     let next = edge_after(edge);
     let ahead = read_across(pages, &here, next, steps);

@@ -19,7 +19,6 @@ pub(crate) fn write_two<L: Ledger>(
     requires s { IsTaken pages.old s }
     requires n { IsTaken pages.old n }
     ensures ok { OnOk result (pages.new ≡ slice_set (slice_set pages.old s (holding one)) n (holding two)) }
-    ensures cost { steps.new ≤ steps.old + 2 }
 {
     pages.write(s, one, steps)?;
     pages.write(n, two, steps)?;
@@ -40,7 +39,6 @@ pub(crate) fn write_three<L: Ledger>(
     requires f { IsTaken pages.old f }
     requires g { IsTaken pages.old g }
     ensures ok { OnOk result (pages.new ≡ slice_set (slice_set (slice_set pages.old s (holding one)) f (holding two)) g (holding three)) }
-    ensures cost { steps.new ≤ steps.old + 3 }
 {
     write_two(pages, s, one, f, two, steps)?;
     pages.write(g, three, steps)?;
@@ -64,7 +62,6 @@ pub(crate) fn write_four<L: Ledger>(
     requires f { IsTaken pages.old f }
     requires g { IsTaken pages.old g }
     ensures ok { OnOk result (pages.new ≡ slice_set (slice_set (slice_set (slice_set pages.old s (holding one)) n (holding two)) f (holding three)) g (holding four)) }
-    ensures cost { steps.new ≤ steps.old + 4 }
 {
     write_three(pages, s, one, n, two, f, three, steps)?;
     pages.write(g, four, steps)?;

@@ -1,10 +1,10 @@
-use Rattle.std.proofs.Common.{◌≡◌, Some, arith}
+use Rattle.std.proofs.Common.{◌≡◌, Some}
 use Rattle.tri_pages.specs.Slots.{triangle_at}
 use Rattle.mesh.specs.Acrosses.{IsAcross}
-use Rattle.mesh.specs.Counts.{recounted}
+use Rattle.mesh.specs.Recounts.{recounted}
 use Rattle.mesh.specs.Net.{side}
 use Rattle.mesh.proofs.Acrosses.{across_apart}
-use Rattle.mesh.proofs.Counts.{CountRun, count_mesh, count_is}
+use Rattle.mesh.proofs.Recounts.{CountRun, count_mesh, count_is}
 use Rattle.mesh.proofs.Slots.{live_real, holds_taken, is_some}
 use Rattle.mesh.proofs.WrittenSlots.{wrote_two}
 use Rattle.mesh.proofs.count.set_count.Goals as goal
@@ -39,5 +39,4 @@ returns g c =
     record {
       mesh = count_mesh old new s n k j t u m run;
       recounted = count_is old new s n k j t u m run;
-      cost = omega arith;
     }

@@ -1,4 +1,4 @@
-use Rattle.std.proofs.Common.{◌≡◌, ◌∙◌, Some, sym, ap, subst, arith}
+use Rattle.std.proofs.Common.{◌≡◌, ◌∙◌, Some, sym, ap, subst}
 use Rattle.tri_pages.specs.Slots.{triangle_at}
 use Rattle.mesh.specs.Acrosses.{IsAcross}
 use Rattle.mesh.specs.EdgeSplits.{start_part, end_part}
@@ -59,7 +59,6 @@ returns gg c =
     record {
       mesh = edge_split_mesh old p1 p2 p3 new s n f g k j t u p run;
       split = edge_split_is old p1 p2 p3 new s n f g k j t u p run;
-      cost = omega arith;
     }
 
 pub write_four-requires-clause-n : goal.write_four-requires-clause-n

@@ -1,4 +1,4 @@
-use Rattle.std.proofs.Common.{◌≡◌, ◌∙◌, Some, sym, ap, subst, arith}
+use Rattle.std.proofs.Common.{◌≡◌, ◌∙◌, Some, sym, ap, subst}
 use Rattle.tri_pages.specs.Slots.{triangle_at}
 use Rattle.mesh.specs.EdgeUnsplits.{AreFour, IsLine, upper}
 use Rattle.mesh.specs.Net.{edges_of, slots_of, side}
@@ -86,5 +86,4 @@ returns gg c =
     record {
       mesh = edge_unsplit_mesh old p1 p2 p3 new s f n g k j i l t u w v run;
       unsplit = edge_unsplit_is old p1 p2 p3 new s f n g k j i l t u w v run;
-      cost = omega arith;
     }

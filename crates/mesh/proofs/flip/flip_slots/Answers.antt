@@ -1,4 +1,4 @@
-use Rattle.std.proofs.Common.{◌≡◌, ◌∙◌, Some, sym, ap, subst, arith}
+use Rattle.std.proofs.Common.{◌≡◌, ◌∙◌, Some, sym, ap, subst}
 use Rattle.tri_pages.specs.Slots.{triangle_at}
 use Rattle.mesh.specs.Acrosses.{IsAcross}
 use Rattle.mesh.specs.Flips.{IsFlippable, flip_one, flip_two}
@@ -49,5 +49,4 @@ returns g c =
     record {
       mesh = flip_mesh old p1 p2 new s n k j t u run;
       flipped = flip_is old p1 p2 new s n k j t u run;
-      cost = omega arith;
     }

@@ -43,5 +43,4 @@ returns g c =
     record {
       mesh = split_mesh old p1 p2 p3 new s f h t p run;
       split = split_is old p1 p2 p3 new s f h t p run;
-      cost = omega arith;
     }

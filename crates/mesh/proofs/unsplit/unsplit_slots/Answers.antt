@@ -1,4 +1,4 @@
-use Rattle.std.proofs.Common.{◌≡◌, ◌∙◌, Some, sym, ap, subst, arith}
+use Rattle.std.proofs.Common.{◌≡◌, ◌∙◌, Some, sym, ap, subst}
 use Rattle.tri_pages.specs.Slots.{triangle_at}
 use Rattle.mesh.specs.Acrosses.{IsAcross}
 use Rattle.mesh.specs.Net.{edges_of, slots_of, side, after}
@@ -79,5 +79,4 @@ returns gg c =
     record {
       mesh = unsplit_mesh old p1 p2 p3 new s f g k j l t u v run;
       unsplit = unsplit_is old p1 p2 p3 new s f g k j l t u v run;
-      cost = omega arith;
     }

@@ -6,7 +6,7 @@ use Rattle.tri_pages.specs.declared.tri_slot.TriSlot.{TriSlot}
 use Rattle.tri_pages.specs.Slots.{State, triangle_at}
 use Rattle.mesh.specs.Acrosses.{apex, IsAcross}
 use Rattle.mesh.specs.Corners.{Distinct}
-use Rattle.mesh.specs.Counts.{recounted, IsRecounted}
+use Rattle.mesh.specs.Recounts.{recounted, IsRecounted}
 use Rattle.mesh.specs.Faces.{face, face_at}
 use Rattle.mesh.specs.Meshes.{IsMesh}
 use Rattle.mesh.specs.Net.{Side, first, after, corner_at, count_at, next_at, edges_of, slots_of, outside, IsNetBut, OpenIn}
