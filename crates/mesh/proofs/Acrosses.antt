@@ -1,13 +1,12 @@
 -- Across each edge of a mesh stands a triangle.
-use Rattle.std.proofs.Common.{◌≡◌, ℕ, Option, Some, List, [], ◌∷◌, refl, sym, ap, ◌∙◌, subst}
-use Rattle.std.specs.Option.{IsSome}
+use Rattle.std.proofs.Common.{◌≡◌, ℕ, Some, List, [], ◌∷◌, refl, sym, ap, ◌∙◌, subst}
 use Rattle.ground_model.specs.declared.corner.Corner.{Corner}
 use Rattle.tri_pages.specs.declared.tri_slot.TriSlot.{TriSlot}
 use Rattle.tri_pages.specs.Slots.{State, triangle_at}
 use Rattle.mesh.specs.Acrosses.{apex, IsAcross, HasNoEdge}
 use Rattle.mesh.specs.Corners.{Distinct}
 use Rattle.mesh.specs.Meshes.{IsMesh, IsLive, corners_of}
-use Rattle.mesh.specs.Net.{Side, after, Edge, edge, edge_of, edges_of, corner_at, count_at, next_at, outside, slots_of, IsMet, OpenIn}
+use Rattle.mesh.specs.Net.{Side, after, edge, edge_of, edges_of, corner_at, next_at, outside, slots_of, IsMet, OpenIn}
 use Rattle.mesh.proofs.Corners.{Owner, owner, distinct_from}
 use Rattle.mesh.proofs.Patched.{same_in, around, itself, one_on, two_on}
 use Rattle.mesh.proofs.Slots.{slot_in, live_real, is_some}

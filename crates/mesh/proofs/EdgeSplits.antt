@@ -1,5 +1,5 @@
 -- A split of an edge keeps a mesh.
-use Rattle.std.proofs.Common.{◌≡◌, ℕ, Option, Some, None, List, [], ◌∷◌, refl, sym, ap, ◌∙◌, inl, inr}
+use Rattle.std.proofs.Common.{◌≡◌, ℕ, Some, None, List, [], ◌∷◌, refl, sym, ap, ◌∙◌, inl, inr}
 use Rattle.std.specs.Option.{option_map}
 use Rattle.ground_model.specs.declared.corner.Corner.{Corner}
 use Rattle.tri_pages.specs.declared.tri_slot.TriSlot.{TriSlot}

@@ -1,11 +1,11 @@
 -- An unsplit of an edge keeps a mesh.
-use Rattle.std.proofs.Common.{◌≡◌, ◌≤◌, ◌^◌, ℕ, Option, Some, None, List, [], ◌∷◌, length, refl, sym, ap, ◌∙◌, inl, inr, subst}
+use Rattle.std.proofs.Common.{◌≡◌, ◌≤◌, ◌^◌, ℕ, Some, List, [], ◌∷◌, refl, sym, ap, ◌∙◌, inl, inr, subst}
 use Rattle.std.specs.Option.{option_map}
 use Rattle.std.proofs.lemmas.Bool.{cases_eq}
 use Rattle.std.proofs.lemmas.Option.{none-some}
 use Rattle.ground_model.specs.declared.corner.Corner.{Corner}
 use Rattle.tri_pages.specs.declared.tri_slot.TriSlot.{TriSlot}
-use Rattle.tri_pages.specs.Slots.{State, state_at, triangle_at, free}
+use Rattle.tri_pages.specs.Slots.{State, triangle_at}
 use Rattle.mesh.specs.Acrosses.{apex, IsAcross}
 use Rattle.mesh.specs.Corners.{Distinct}
 use Rattle.mesh.specs.EdgeUnsplits.{upper, AreFour, IsLine, IsEdgeUnsplit}

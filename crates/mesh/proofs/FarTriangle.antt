@@ -4,14 +4,15 @@ use Rattle.std.proofs.lemmas.Bool.{cases_eq}
 use Rattle.std.proofs.lemmas.Option.{none-some}
 use Rattle.ground_model.specs.declared.corner.Corner.{Corner}
 use Rattle.ground_model.specs.declared.corner.Corner.TheVariants.{At, Far}
-use Rattle.mesh.specs.Net.{Side, first, second, third, Edge, edge, edges_of, rim, outside, slots_of, IsMet, IsNetBut, OpenIn}
+use Rattle.mesh.specs.Net.{Side, first, second, third, Edge, corner_at, edge, edges_of, rim, outside, slots_of, IsMet, IsNetBut, OpenIn}
 use Rattle.mesh.specs.FarTriangle.{far, far_alone}
 use Rattle.std.specs.Prelude.{List, ◌∷◌}
-use Rattle.std.proofs.Common.{set, ◌≤◌}
+use Rattle.std.proofs.Common.{set}
 use Rattle.tri_pages.specs.declared.tri_slot.TriSlot.{TriSlot}
 use Rattle.tri_pages.specs.Slots.{State, state_at, joined, blank, holding, put}
 use Rattle.mesh.specs.Corners.{Distinct}
-use Rattle.mesh.specs.Meshes.{corners_of, IsMesh}
+use Rattle.ground_model.specs.Place.{Coords}
+use Rattle.mesh.specs.Meshes.{corners_of, HasNoCorner, IsMesh}
 use Rattle.mesh.proofs.Patched.{same_in}
 
 abbrev number : Corner → ℕ
@@ -139,3 +140,25 @@ pub far_alone_is : (s : ℕ) (one two : List State) → one ≡ put [] s blank �
 far_alone_is s one two e h w =
     let z = first_by s one e h in
     w ∙ (λ i. set (e i) s (holding far)) ∙ ap (λ k. set (put [] k blank) k (holding far)) z
+
+abbrev place_of : Corner → ℕ
+place_of (At p) = 1
+place_of (Far i) = 0
+
+no_place_far : (k : Side) (p : Coords) → corner_at far k ≡ At p → ⊥
+no_place_far first p e = omega (arith, ap place_of e)
+no_place_far second p e = omega (arith, ap place_of e)
+no_place_far third p e = omega (arith, ap place_of e)
+
+no_place_rim : (k : Side) (p : Coords) → corner_at rim k ≡ At p → ⊥
+no_place_rim first p e = omega (arith, ap place_of e)
+no_place_rim second p e = omega (arith, ap place_of e)
+no_place_rim third p e = omega (arith, ap place_of e)
+
+-- no place is a corner of the far triangle
+pub far_has_no_place : (p : Coords) → HasNoCorner far_alone (At p)
+far_has_no_place p zero t k h e = no_place_far k p (ap (λ x. corner_at x k) (same_in far t h) ∙ e)
+far_has_no_place p (suc n) t k h e = elim (cases_eq (suc n) outside) as (λ _. ⊥) [
+  | inl o ↦ no_place_rim k p (ap (λ x. corner_at x k) (same_in rim t (sym (ap (slots_of far_alone) o) ∙ h)) ∙ e)
+  | inr ne ↦ none-some t (sym (no_more n ne) ∙ h)
+]

@@ -1,14 +1,13 @@
 -- What a mesh is beside its net: each triangle has three corners, no slot is blank, and there aren't too many slots.
-use Rattle.std.proofs.Common.{◌≡◌, ◌≤◌, ◌^◌, ℕ, Option, Some, None, List, [], ◌∷◌, length, get_or, refl, sym, ap, ◌∙◌, subst, inl, inr, ◌⊎◌}
+use Rattle.std.proofs.Common.{◌≡◌, ◌≤◌, ◌^◌, ℕ, Option, Some, None, List, [], ◌∷◌, length, get_or, refl, sym, ap, ◌∙◌, subst, inl, inr}
 use Rattle.std.specs.Option.{option_map}
 use Rattle.std.proofs.lemmas.Bool.{cases_eq}
 use Rattle.std.proofs.lemmas.Option.{none-some}
-use Rattle.ground_model.specs.declared.corner.Corner.{Corner}
 use Rattle.ground_model.specs.declared.corner.Corner.TheVariants.{Far}
 use Rattle.tri_pages.specs.declared.tri_slot.TriSlot.{TriSlot}
 use Rattle.tri_pages.specs.Slots.{State, state_at, blank}
 use Rattle.mesh.specs.Corners.{Distinct}
-use Rattle.mesh.specs.Faces.{Face, face, face_at, KeepsFaces}
+use Rattle.mesh.specs.Faces.{Face, face, KeepsFaces}
 use Rattle.mesh.specs.Meshes.{corners_of, IsMesh}
 use Rattle.mesh.specs.Net.{slots_of, IsNet}
 use Rattle.mesh.proofs.Patched.{same_in}

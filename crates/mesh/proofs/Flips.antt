@@ -1,5 +1,5 @@
 -- A flip keeps a mesh.
-use Rattle.std.proofs.Common.{◌≡◌, ℕ, Option, Some, List, [], ◌∷◌, refl, sym, ap, ◌∙◌, inl, inr}
+use Rattle.std.proofs.Common.{◌≡◌, ℕ, Some, List, [], ◌∷◌, refl, sym, ap, ◌∙◌, inl, inr}
 use Rattle.std.specs.Option.{option_map}
 use Rattle.ground_model.specs.declared.corner.Corner.{Corner}
 use Rattle.tri_pages.specs.declared.tri_slot.TriSlot.{TriSlot}
@@ -11,7 +11,7 @@ use Rattle.mesh.specs.Flips.{flip_one, flip_two, IsFlipped}
 use Rattle.mesh.specs.Meshes.{IsMesh}
 use Rattle.mesh.specs.Net.{Side, first, second, after, edge, edge_of, corner_at, next_at, edges_of, slots_of, outside, IsNetBut, OpenIn}
 use Rattle.mesh.specs.Redirects.{IsRedirected}
-use Rattle.mesh.proofs.Acrosses.{across_apart, four_distinct, no_edge_back}
+use Rattle.mesh.proofs.Acrosses.{four_distinct, no_edge_back}
 use Rattle.mesh.proofs.Corners.{thrice}
 use Rattle.mesh.proofs.Filled.{filled_two, kept_filled, mesh_of}
 use Rattle.mesh.proofs.Patched.{patched}

@@ -9,7 +9,6 @@ use Rattle.tri_pages.specs.declared.tri_slot.TriSlot.{TriSlot}
 use Rattle.tri_pages.specs.Slots.{State, state_at, joined, blank, free, IsTaken, holding}
 use Rattle.mesh.specs.Net.{outside, slots_of}
 use Rattle.mesh.proofs.Slots.{WasBlank, slot_in, set_here, set_there, taken_set, taken_within, blank_set}
-use Rattle.mesh.proofs.WrittenSlots.{WroteTwo, wrote_two}
 
 -- a slot that was given back is free
 free_here : (pages : List State) (s : ℕ) → IsTaken pages s → state_at (set pages s free) s ≡ free

@@ -1,15 +1,14 @@
 -- A change of a count keeps a mesh.
-use Rattle.std.proofs.Common.{◌≡◌, ℕ, Option, Some, List, [], ◌∷◌, refl, sym, ap, ◌∙◌, inl, inr}
+use Rattle.std.proofs.Common.{◌≡◌, ℕ, Some, List, [], ◌∷◌, refl, sym, ap, ◌∙◌, inl, inr}
 use Rattle.std.specs.Option.{option_map}
-use Rattle.ground_model.specs.declared.corner.Corner.{Corner}
 use Rattle.tri_pages.specs.declared.tri_slot.TriSlot.{TriSlot}
 use Rattle.tri_pages.specs.Slots.{State, triangle_at}
 use Rattle.mesh.specs.Acrosses.{apex, IsAcross}
 use Rattle.mesh.specs.Corners.{Distinct}
 use Rattle.mesh.specs.Recounts.{recounted, IsRecounted}
-use Rattle.mesh.specs.Faces.{face, face_at}
+use Rattle.mesh.specs.Faces.{face}
 use Rattle.mesh.specs.Meshes.{IsMesh}
-use Rattle.mesh.specs.Net.{Side, first, after, corner_at, count_at, next_at, edges_of, slots_of, outside, IsNetBut, OpenIn}
+use Rattle.mesh.specs.Net.{Side, first, after, corner_at, edges_of, slots_of, outside, IsNetBut, OpenIn}
 use Rattle.mesh.proofs.Acrosses.{four_distinct}
 use Rattle.mesh.proofs.Corners.{thrice, distinct_from}
 use Rattle.mesh.proofs.Filled.{filled_two, mesh_of}

@@ -1,12 +1,12 @@
 -- A split keeps a mesh.
-use Rattle.std.proofs.Common.{◌≡◌, ◌≤◌, ◌^◌, ℕ, Option, Some, None, List, [], ◌∷◌, length, refl, sym, ap, ◌∙◌, inl, inr, subst}
+use Rattle.std.proofs.Common.{◌≡◌, ℕ, Option, Some, None, List, [], ◌∷◌, refl, sym, ap, ◌∙◌, inl, inr}
 use Rattle.std.specs.Option.{option_map}
 use Rattle.ground_model.specs.declared.corner.Corner.{Corner}
 use Rattle.tri_pages.specs.declared.tri_slot.TriSlot.{TriSlot}
-use Rattle.tri_pages.specs.Slots.{State, state_at, triangle_at, blank}
+use Rattle.tri_pages.specs.Slots.{State, state_at, blank}
 use Rattle.mesh.specs.Corners.{Distinct}
 use Rattle.mesh.specs.Faces.{face, face_at, KeepsFaces}
-use Rattle.mesh.specs.Meshes.{IsMesh, HasNoCorner, corners_of}
+use Rattle.mesh.specs.Meshes.{IsMesh, HasNoCorner}
 use Rattle.mesh.specs.Net.{Side, first, second, third, Edge, edge, edge_of, corner_at, next_at, edges_of, outside, slots_of, IsNetBut, OpenIn}
 use Rattle.mesh.specs.Redirects.{IsRedirected}
 use Rattle.mesh.specs.Splits.{split_part, IsSplit}

@@ -1,5 +1,5 @@
 -- An unsplit keeps a mesh.
-use Rattle.std.proofs.Common.{◌≡◌, ◌≤◌, ◌^◌, ℕ, Option, Some, None, List, [], ◌∷◌, length, refl, sym, ap, ◌∙◌, inl, inr, subst}
+use Rattle.std.proofs.Common.{◌≡◌, ◌≤◌, ◌^◌, ℕ, Option, Some, None, List, [], ◌∷◌, refl, sym, ap, ◌∙◌, inl, inr, subst}
 use Rattle.std.specs.Option.{option_map}
 use Rattle.std.proofs.lemmas.Bool.{cases_eq}
 use Rattle.std.proofs.lemmas.Option.{none-some}
@@ -10,7 +10,7 @@ use Rattle.mesh.specs.Acrosses.{apex, IsAcross}
 use Rattle.mesh.specs.Corners.{Distinct}
 use Rattle.mesh.specs.Faces.{face, face_at, KeepsFaces}
 use Rattle.mesh.specs.Meshes.{IsMesh, corners_of}
-use Rattle.mesh.specs.Net.{Side, first, second, third, after, edge, edge_of, edges_of, corner_at, count_at, next_at, outside, slots_of, IsNetBut, OpenIn}
+use Rattle.mesh.specs.Net.{Side, first, second, third, after, edge, edge_of, edges_of, corner_at, next_at, outside, slots_of, IsNetBut, OpenIn}
 use Rattle.mesh.specs.Redirects.{IsRedirected}
 use Rattle.mesh.specs.Unsplits.{whole, AreAround, IsUnsplit}
 use Rattle.mesh.proofs.Acrosses.{foreign}

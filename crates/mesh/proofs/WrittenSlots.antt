@@ -1,5 +1,5 @@
 -- Two, three and four slots are written.
-use Rattle.std.proofs.Common.{◌≡◌, ℕ, Some, List, length, set, sym, ap, ◌∙◌, subst}
+use Rattle.std.proofs.Common.{◌≡◌, ℕ, Some, List, length, set, sym, ◌∙◌, subst}
 use Rattle.std.proofs.lemmas.List.{length-set}
 use Rattle.tri_pages.specs.declared.tri_slot.TriSlot.{TriSlot}
 use Rattle.tri_pages.specs.Slots.{State, state_at, blank, IsTaken, holding}

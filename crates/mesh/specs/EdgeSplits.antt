@@ -1,5 +1,5 @@
 -- An edge is split at a corner within it.
-use Rattle.std.specs.Prelude.{◌≡◌, ℕ, Option, Some, List, [], ◌∷◌}
+use Rattle.std.specs.Prelude.{◌≡◌, ℕ, Some, List, [], ◌∷◌}
 use Rattle.ground_model.specs.declared.corner.Corner.{Corner}
 use Rattle.tri_pages.specs.declared.tri_slot.TriSlot.{TriSlot}
 use Rattle.tri_pages.specs.Slots.{State, state_at, triangle_at, free}

@@ -1,5 +1,5 @@
 -- The common edge of two triangles is turned to the other diagonal.
-use Rattle.std.specs.Prelude.{◌≡◌, ℕ, Option, Some, List, [], ◌∷◌}
+use Rattle.std.specs.Prelude.{◌≡◌, ℕ, Some, List, [], ◌∷◌}
 use Rattle.tri_pages.specs.declared.tri_slot.TriSlot.{TriSlot}
 use Rattle.tri_pages.specs.Slots.{State, triangle_at}
 use Rattle.mesh.specs.Acrosses.{apex, IsAcross, IsInner, HasTwoApexes, AreUnjoined}

@@ -1,5 +1,5 @@
 -- Slots are taken for new triangles.
-use Rattle.std.specs.Prelude.{◌≡◌, ◌⊎◌, ◌≤◌, ◌^◌, ℕ, List, length}
+use Rattle.std.specs.Prelude.{◌≡◌, ◌≤◌, ◌^◌, ℕ, List, length}
 use Rattle.tri_pages.specs.Slots.{State, state_at, blank, free}
 use Rattle.mesh.specs.Net.{outside}
 

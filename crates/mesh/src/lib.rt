@@ -19,6 +19,8 @@ mod split;
 mod stamp;
 mod steps;
 mod take;
+#[cfg(test)]
+mod tests;
 mod unsplit;
 mod writes;
 

@@ -2,7 +2,7 @@ use Rattle.std.proofs.Common.{◌≡◌, ◌∙◌, Some, sym, ap, subst}
 use Rattle.tri_pages.specs.Slots.{triangle_at}
 use Rattle.mesh.specs.Acrosses.{IsAcross}
 use Rattle.mesh.specs.Meshes.{IsLive}
-use Rattle.mesh.specs.Net.{side, after, corner_at, next_at}
+use Rattle.mesh.specs.Net.{side, next_at}
 use Rattle.mesh.proofs.Acrosses.{across_live, across_read}
 use Rattle.mesh.proofs.across.read_across.Goals as goal
 

@@ -1,8 +1,8 @@
-use Rattle.std.proofs.Common.{◌≡◌, ◌∙◌, Some, sym, ap, subst}
+use Rattle.std.proofs.Common.{◌≡◌, ◌∙◌, Some, subst}
 use Rattle.tri_pages.specs.Slots.{triangle_at}
 use Rattle.mesh.specs.Acrosses.{IsAcross}
 use Rattle.mesh.specs.EdgeSplits.{start_part, end_part}
-use Rattle.mesh.specs.Net.{edges_of, slots_of, side, corner_at}
+use Rattle.mesh.specs.Net.{edges_of, slots_of, side}
 use Rattle.mesh.specs.Redirects.{IsRedirected}
 use Rattle.mesh.proofs.Acrosses.{across_apart}
 use Rattle.mesh.proofs.EdgeSplits.{EdgeSplitRun, edge_split_mesh, edge_split_is}

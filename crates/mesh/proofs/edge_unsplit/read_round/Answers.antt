@@ -1,5 +1,4 @@
-use Rattle.std.proofs.Common.{◌≡◌, ◌∙◌, Some, sym, ap, subst}
-use Rattle.tri_pages.specs.Slots.{triangle_at}
+use Rattle.std.proofs.Common.{◌≡◌, ◌∙◌, sym, ap, subst}
 use Rattle.mesh.specs.Acrosses.{IsAcross}
 use Rattle.mesh.specs.Net.{side, after}
 use Rattle.mesh.proofs.EdgeUnsplits.{four_of, round_side}

@@ -1,4 +1,4 @@
-use Rattle.std.proofs.Common.{◌≡◌, ◌∙◌, Some, sym, ap, subst}
+use Rattle.std.proofs.Common.{◌≡◌, Some, subst}
 use Rattle.tri_pages.specs.Slots.{triangle_at}
 use Rattle.mesh.specs.EdgeUnsplits.{AreFour, IsLine, upper}
 use Rattle.mesh.specs.Net.{edges_of, slots_of, side}

@@ -1,8 +1,8 @@
-use Rattle.std.proofs.Common.{◌≡◌, ◌∙◌, Some, sym, ap, subst}
+use Rattle.std.proofs.Common.{◌≡◌, Some, subst}
 use Rattle.tri_pages.specs.Slots.{triangle_at}
 use Rattle.mesh.specs.Acrosses.{IsAcross}
-use Rattle.mesh.specs.Flips.{IsFlippable, flip_one, flip_two}
-use Rattle.mesh.specs.Net.{edges_of, slots_of, side, outside}
+use Rattle.mesh.specs.Flips.{flip_one, flip_two}
+use Rattle.mesh.specs.Net.{edges_of, slots_of, side}
 use Rattle.mesh.specs.Redirects.{IsRedirected}
 use Rattle.mesh.proofs.Acrosses.{across_apart}
 use Rattle.mesh.proofs.Flips.{FlipRun, flip_mesh, flip_is}

@@ -1,4 +1,4 @@
-use Rattle.std.proofs.Common.{◌≡◌, ◌∙◌, ap}
+use Rattle.std.proofs.Common.{◌∙◌, ap}
 use Rattle.tri_pages.specs.Slots.{put, blank}
 use Rattle.mesh.proofs.FarTriangle.{far_alone_is}
 use Rattle.mesh.proofs.mesh.far_pages.Goals as goal

@@ -1,11 +1,11 @@
-use Rattle.std.proofs.Common.{◌≡◌, ◌∙◌, Some, sym, ap, subst, arith, rules}
-use Rattle.tri_pages.specs.Slots.{triangle_at, IsTaken}
+use Rattle.std.proofs.Common.{◌≡◌, ◌∙◌, Some, subst}
+use Rattle.tri_pages.specs.Slots.{triangle_at}
 use Rattle.mesh.specs.Net.{edges_of, slots_of, first, second, third}
 use Rattle.mesh.specs.Redirects.{IsRedirected}
 use Rattle.mesh.specs.Splits.{split_part}
 use Rattle.mesh.proofs.Slots.{slot_in, live_real, holds_taken}
 use Rattle.mesh.proofs.Splits.{SplitRun, split_mesh, split_is}
-use Rattle.mesh.proofs.Takes.{blank_taken, full_apart, same_triangle}
+use Rattle.mesh.proofs.Takes.{blank_taken, full_apart}
 use Rattle.mesh.proofs.WrittenSlots.{wrote_three}
 use Rattle.mesh.proofs.split.split_slots.Goals as goal
 

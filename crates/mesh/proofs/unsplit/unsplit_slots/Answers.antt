@@ -1,6 +1,5 @@
-use Rattle.std.proofs.Common.{◌≡◌, ◌∙◌, Some, sym, ap, subst}
+use Rattle.std.proofs.Common.{◌≡◌, Some, subst}
 use Rattle.tri_pages.specs.Slots.{triangle_at}
-use Rattle.mesh.specs.Acrosses.{IsAcross}
 use Rattle.mesh.specs.Net.{edges_of, slots_of, side, after}
 use Rattle.mesh.specs.Redirects.{IsRedirected}
 use Rattle.mesh.specs.Unsplits.{whole, AreAround}

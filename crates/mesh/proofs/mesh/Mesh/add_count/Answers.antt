@@ -1,4 +1,4 @@
-use Rattle.std.proofs.Common.{◌≡◌, ◌+◌, sym, ap, subst, arith}
+use Rattle.std.proofs.Common.{◌+◌, ap, subst, arith}
 use Rattle.tri_pages.specs.Slots.{triangle_at}
 use Rattle.mesh.specs.Net.{side}
 use Rattle.mesh.specs.Steps.{CountStep}

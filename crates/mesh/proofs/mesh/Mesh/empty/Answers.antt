@@ -1,4 +1,4 @@
-use Rattle.std.proofs.Common.{◌≡◌, sym, subst}
+use Rattle.std.proofs.Common.{sym, subst}
 use Rattle.mesh.specs.Meshes.{IsMesh}
 use Rattle.mesh.proofs.FarTriangle.{far_mesh}
 use Rattle.mesh.proofs.mesh.Mesh.empty.Goals as goal

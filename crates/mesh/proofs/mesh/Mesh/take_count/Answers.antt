@@ -1,4 +1,4 @@
-use Rattle.std.proofs.Common.{◌≡◌, ◌-◌, arith}
+use Rattle.std.proofs.Common.{◌-◌, arith}
 use Rattle.tri_pages.specs.Slots.{triangle_at}
 use Rattle.mesh.proofs.Slots.{some_is}
 use Rattle.mesh.proofs.mesh.Mesh.take_count.Goals as goal
