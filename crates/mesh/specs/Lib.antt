@@ -1,0 +1,16 @@
+pub mod Acrosses
+pub mod Corners
+pub mod EdgeSplits
+pub mod EdgeUnsplits
+pub mod Faces
+pub mod FarTriangle
+pub mod Flips
+pub mod Meshes
+pub mod Net
+pub mod Recounts
+pub mod Redirects
+pub mod Splits
+pub mod Stamps
+pub mod Steps
+pub mod Takes
+pub mod Unsplits

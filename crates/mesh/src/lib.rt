@@ -1,0 +1,30 @@
+//! A mesh of triangles as a net over slots that versions share, and the steps that change it.
+//! It never asks where a corner lies.
+#![tactic(auto)]
+
+mod across;
+mod count;
+mod counts;
+mod edge_split;
+mod edge_unsplit;
+mod flip;
+mod lookups;
+mod mesh;
+mod point_id;
+mod read;
+mod redirect;
+mod script;
+mod seen;
+mod split;
+mod stamp;
+mod steps;
+mod take;
+#[cfg(test)]
+mod tests;
+mod unsplit;
+mod writes;
+
+pub use across::Across;
+pub use mesh::Mesh;
+pub use point_id::PointId;
+pub use script::Script;
