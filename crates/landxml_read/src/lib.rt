@@ -6,10 +6,13 @@ mod byte;
 mod fault;
 mod laws;
 mod list;
+mod outline;
 mod raw;
 mod scan;
 mod skipped;
+mod standing;
 mod tag;
+mod utf8;
 
 pub use fault::{DocCause, DocFault};
 pub use laws::scan_law;
