@@ -12,7 +12,7 @@ use Rattle.landxml_read.specs.declared.skipped.Skipped.{Skipped}
 use Rattle.landxml_read.specs.declared.skipped.Skipped.TheVariants.{Comment, CommentDash, CommentDashes, Instruction, InstructionMark, CData, CDataBracket, CDataBrackets}
 use Rattle.landxml_read.specs.declared.tag.TagPart.{TagPart}
 use Rattle.landxml_read.specs.declared.tag.TagPart.TheVariants.{Name, White, Attribute, BeforeEquals, AfterEquals, DoubleQuoted, SingleQuoted, AfterValue, Slash}
-use Rattle.landxml_read.specs.Scan.{opened, passed, closed, is_inside, is_unclosed, inner_depth, at, only, text_next, open_next, bang_next, skipping, skipped_next, tag_end, white_or_end, before_quote, value_next, tag_next, end_next, part_next, next, run, start, is_bang}
+use Rattle.landxml_read.specs.Scan.{opened, passed, closed, is_inside, is_unclosed, inner_depth, at, text_next, open_next, bang_next, skipping, skipped_next, white_or_end, value_next, tag_next, end_next, part_next, next, run, start, is_bang}
 
 abbrev pub is_open : Part → Bool
 is_open Open = true

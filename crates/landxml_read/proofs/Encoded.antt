@@ -1,15 +1,15 @@
 -- The states of UTF-8 accept it, each goes on to it, and where it fails.
-use Rattle.std.proofs.Common.{◌≡◌, ℕ, zero, suc, ◌+◌, ◌-◌, ◌*◌, ◌/◌, ◌%◌, ◌≤◌, ◌<◌, Bool, true, false, ◌==◌, ◌&&◌, nat_lt, cond, List, [], ◌∷◌, ◌++◌, length, take, drop, Option, None, Some, refl, sym, ◌∙◌, ap, subst, arith, le-ltb, lt-ltb, append_assoc, length-append, ◌⊎◌, inl, inr}
+use Rattle.std.proofs.Common.{◌≡◌, ℕ, zero, suc, ◌+◌, ◌-◌, ◌/◌, ◌%◌, ◌≤◌, ◌<◌, Bool, true, false, ◌==◌, nat_lt, cond, List, [], ◌∷◌, ◌++◌, length, take, Option, None, Some, refl, sym, ◌∙◌, ap, subst, arith, le-ltb, lt-ltb, length-append}
 use Rattle.std.proofs.lemmas.Bool.Decides.{nat_tests}
-use Rattle.std.proofs.lemmas.List.{take-append-le, take-append-drop}
+use Rattle.std.proofs.lemmas.List.{take-append-le}
 use Rattle.std.proofs.Math.Seq.{take-append-add, take-length}
 use Rattle.std.specs.Char.{encode_utf8, IsScalar}
 use Rattle.std.specs.Str.{IsUtf8, encode_utf8_all, all_scalars}
-use Rattle.ground_num.specs.FirstFault.{Begins, IsFirstFault}
+use Rattle.ground_num.specs.FirstFault.{Begins}
 use Rattle.landxml_read.specs.declared.utf8.Utf8.{Utf8}
 use Rattle.landxml_read.specs.declared.utf8.Utf8.TheVariants.{Ready, One, Two, Three, AfterE0, AfterEd, AfterF0, AfterF4}
-use Rattle.landxml_read.specs.Utf8.{is_between, on_between, begun_by, utf8_next, is_ready, utf8_run}
-use Rattle.landxml_read.proofs.Tests.{both}
+use Rattle.landxml_read.specs.Utf8.{on_between, begun_by, utf8_next, is_ready, utf8_run}
+use Rattle.landxml_read.proofs.Bytes.{both}
 use Rattle.landxml_read.specs.Answer.{IsLastUtf8}
 use Rattle.landxml_read.proofs.Sequences.{sound}
 

@@ -5,12 +5,11 @@ use Rattle.ground_num.specs.Spelling.{rounded}
 use Rattle.landxml_read.specs.declared.fault.DocCause.TheVariants as cause
 use Rattle.landxml_read.specs.declared.raw.RawKind.TheVariants as kind
 use Rattle.landxml_read.specs.declared.raw.RawVertex.TheVariants as vertex
-use Rattle.landxml_read.specs.declared.raw.Triple.{Triple}
-use Rattle.landxml_read.specs.Markup.{StartTag, EndTag, Attribute, Content, Nothing, Byte, Comment, Instruction, CData, Empty, Element, Document, document_text}
+use Rattle.landxml_read.specs.Markup.{Content, Nothing, Byte, Comment, CData, Empty, Element, Document, document_text}
 use Rattle.landxml_read.specs.Values.{decoded}
 use Rattle.landxml_read.specs.Numbers.{decimal_of}
 use Rattle.landxml_read.specs.Faults.{tree_faults, fault}
-use Rattle.landxml_read.specs.Lists.{surfaces_of, unit_of, SurfaceRead, LineRead, IdRead, FaceRead}
+use Rattle.landxml_read.specs.Lists.{surfaces_of, unit_of, SurfaceRead}
 
 -- text before content
 abbrev text : List ℕ → Content → Content

@@ -1,4 +1,4 @@
-pub mod Tests
+pub mod Bytes
 pub mod FirstFaults
 pub mod Closing
 pub mod Following

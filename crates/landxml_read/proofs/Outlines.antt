@@ -1,7 +1,7 @@
 -- The faults of encoding and markup, from where they stand.
-use Rattle.std.proofs.Common.{◌≡◌, ℕ, zero, suc, ◌+◌, ◌-◌, ◌<◌, ◌≤◌, Bool, true, false, ◌==◌, ◌&&◌, nat_lt, cond, List, [], ◌∷◌, ◌++◌, length, take, drop, codes, Option, None, Some, refl, sym, ◌∙◌, ap, subst, arith, append_assoc, length-append, ◌⊎◌, inl, inr, eqb-true}
+use Rattle.std.proofs.Common.{◌≡◌, ℕ, zero, suc, ◌+◌, ◌-◌, ◌<◌, ◌≤◌, Bool, true, false, ◌==◌, ◌&&◌, nat_lt, cond, List, [], ◌∷◌, ◌++◌, length, take, drop, get_or, codes, Option, None, Some, refl, sym, ◌∙◌, ap, subst, arith, append_assoc, length-append, inl, inr, eqb-true}
 use Rattle.std.proofs.lemmas.Bool.Decides.{nat_tests}
-use Rattle.std.proofs.lemmas.List.{take-append-le, append-nil, take-append-drop}
+use Rattle.std.proofs.lemmas.List.{take-append-le, append-nil, take-append-drop, take_more}
 use Rattle.std.proofs.Math.Seq.{take-length, drop-append_seam}
 use Rattle.std.specs.Str.{IsUtf8}
 use Rattle.ground_num.specs.FirstFault.{Begins, IsFirstFault}
@@ -10,15 +10,14 @@ use Rattle.landxml_read.specs.declared.fault.DocCause.TheVariants.{Utf8, Doctype
 use Rattle.landxml_read.specs.declared.standing.Standing.{Standing}
 use Rattle.landxml_read.specs.declared.utf8.Utf8.{Utf8 as State}
 use Rattle.landxml_read.specs.declared.utf8.Utf8.TheVariants.{Ready}
-use Rattle.landxml_read.specs.declared.scan.Scan.{Scan}
 use Rattle.landxml_read.specs.Markup.{IsDocumentText}
 use Rattle.landxml_read.specs.Faults.{Fault, fault}
 use Rattle.landxml_read.specs.Answer.{IsLastUtf8, ShowsOutline, IsBefore, rank, IsOutlineFault}
 use Rattle.landxml_read.specs.declared.fault.DocFault.{DocFault}
-use Rattle.landxml_read.specs.Outline.{StandsAt, IsStrayFault}
+use Rattle.landxml_read.specs.Outline.{StandsAt, IsStrayFault, IsShownAt, HasRead}
 use Rattle.landxml_read.specs.Scan.{run, start, next, is_bang, is_final}
 use Rattle.landxml_read.specs.Utf8.{utf8_run, utf8_next, is_ready}
-use Rattle.landxml_read.proofs.Tests.{both}
+use Rattle.landxml_read.proofs.Bytes.{both}
 use Rattle.landxml_read.proofs.FirstFaults.{fault_at, no_fault, begins_take}
 use Rattle.landxml_read.proofs.Scanning.{begun, not_begun, whole, not_whole, run_more}
 use Rattle.landxml_read.proofs.Sequences.{sound}
@@ -285,3 +284,37 @@ utf8_whole seen s at e = sound seen (at.utf8 ∙ ap Some (ready s.utf8 e))
 -- the document is whole
 pub document_whole : (seen : List ℕ) (s : Standing) → StandsAt seen s → is_final s.scan ≡ true → IsDocumentText seen
 document_whole seen s at e = whole seen s.scan at.scan e
+
+-- in a piece
+
+-- a byte of a piece
+pub piece_step : (seen piece : List ℕ) (k : ℕ) → k < length piece → seen ++ take (k + 1) piece ≡ (seen ++ take k piece) ++ get_or piece k 0 ∷ []
+piece_step seen piece k in_it = ap (λ w. seen ++ w) (take_more piece k 0 in_it) ∙ sym (append_assoc seen (take k piece) (get_or piece k 0 ∷ []))
+
+-- what comes before a byte of a piece, and what comes after it
+pub piece_cut : (seen piece more : List ℕ) (k : ℕ) → k < length piece → (seen ++ piece) ++ more ≡ (seen ++ take k piece) ++ get_or piece k 0 ∷ (drop (k + 1) piece ++ more)
+piece_cut seen piece more k in_it =
+    ap (λ w. (seen ++ w) ++ more) (sym (take-append-drop (k + 1) piece) ∙ ap (λ w. w ++ drop (k + 1) piece) (take_more piece k 0 in_it))
+    ∙ regroup seen (take k piece) (get_or piece k 0) (drop (k + 1) piece) more
+  where
+    regroup : (a b : List ℕ) (x : ℕ) (c d : List ℕ) → (a ++ ((b ++ x ∷ []) ++ c)) ++ d ≡ (a ++ b) ++ x ∷ (c ++ d)
+    regroup a b x c d = simp append_assoc
+
+-- what a reader has read
+
+pub standing_of : (seen : List ℕ) (s : Standing) (f : Option DocFault) → f ≡ None → HasRead seen (record { standing = s; fault = f }) → StandsAt seen s
+standing_of seen s None e h = h
+standing_of seen s (Some f) e h = cc
+
+pub standing_read : (seen : List ℕ) (s : Standing) (f : Option DocFault) → f ≡ None → StandsAt seen s → HasRead seen (record { standing = s; fault = f })
+standing_read seen s None e h = h
+standing_read seen s (Some f) e h = cc
+
+pub fault_of : (seen : List ℕ) (s : Standing) (f : DocFault) (g : Option DocFault) → g ≡ Some f → HasRead seen (record { standing = s; fault = g }) → (more : List ℕ) → (show : ℕ) × IsShownAt show (seen ++ more) f
+fault_of seen s f None e h = cc
+fault_of seen s f (Some g) e h = let same : g ≡ f = cc in let P : DocFault → Type 0 = λ x. (more : List ℕ) → (show : ℕ) × IsShownAt show (seen ++ more) x in subst P same h
+
+pub fault_read : (seen piece : List ℕ) (s : Standing) (f : DocFault) (g : Option DocFault) → g ≡ Some f → HasRead seen (record { standing = s; fault = g }) → HasRead (seen ++ piece) (record { standing = s; fault = g })
+fault_read seen piece s f None e h = cc
+fault_read seen piece s f (Some g) e h =
+    λ more. let r = h (piece ++ more) in let P : List ℕ → Type 0 = λ w. IsShownAt r.0 w g in (r.0, subst P (sym (append_assoc seen piece more)) r.1)

@@ -1,5 +1,5 @@
 -- Each state of the scan goes on to a document, so a byte that no state takes is the first fault.
-use Rattle.std.proofs.Common.{◌≡◌, ℕ, zero, suc, ◌+◌, true, false, List, [], ◌∷◌, ◌++◌, codes, length, take, drop, ◌<◌, length-append, Option, None, Some, refl, sym, ◌∙◌, ap, subst, append_assoc, arith}
+use Rattle.std.proofs.Common.{◌≡◌, ℕ, zero, suc, true, false, List, [], ◌∷◌, ◌++◌, codes, length, Option, None, Some, refl, sym, ◌∙◌, ap, subst}
 use Rattle.landxml_read.specs.Markup.{IsDocumentText}
 use Rattle.landxml_read.specs.declared.scan.Scan.{Scan}
 use Rattle.landxml_read.specs.declared.scan.Level.{Level}
@@ -11,14 +11,12 @@ use Rattle.landxml_read.specs.declared.skipped.Skipped.TheVariants.{Comment, Com
 use Rattle.landxml_read.specs.declared.tag.TagPart.{TagPart}
 use Rattle.landxml_read.specs.declared.tag.TagPart.TheVariants.{Name, White, Attribute, BeforeEquals, AfterEquals, DoubleQuoted, SingleQuoted, AfterValue, Slash}
 use Rattle.landxml_read.specs.Scan.{passed, closed, next, is_final, start, run}
-use Rattle.landxml_read.proofs.Tests.{clash}
+use Rattle.landxml_read.proofs.Bytes.{clash}
 use Rattle.landxml_read.proofs.Accepting.{Ends, accepts}
 use Rattle.landxml_read.proofs.FirstFaults.{fault_at, no_fault}
 use Rattle.landxml_read.proofs.Running.{from}
 use Rattle.landxml_read.proofs.Accepted.{accepted}
 use Rattle.ground_num.specs.FirstFault.{Begins, IsFirstFault}
-use Rattle.std.proofs.lemmas.List.{take-append-le, take-append-drop}
-use Rattle.std.proofs.Math.Seq.{take-append-add}
 
 -- what closes the elements that are open
 abbrev closing : Level → List ℕ

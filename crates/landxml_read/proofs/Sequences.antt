@@ -1,13 +1,13 @@
 -- What the states of UTF-8 accept is UTF-8.
-use Rattle.std.proofs.Common.{◌≡◌, ℕ, zero, suc, ◌+◌, ◌-◌, ◌*◌, ◌/◌, ◌%◌, ◌≤◌, ◌<◌, Bool, true, false, ◌==◌, ◌&&◌, nat_lt, cond, List, [], ◌∷◌, ◌++◌, Option, None, Some, refl, sym, ◌∙◌, ap, subst, arith, le-ltb, lt-ltb, eqb-true, append_assoc}
+use Rattle.std.proofs.Common.{◌≡◌, ℕ, zero, suc, ◌+◌, ◌-◌, ◌*◌, ◌/◌, ◌%◌, ◌≤◌, ◌<◌, Bool, true, false, ◌==◌, nat_lt, cond, List, [], ◌∷◌, Option, None, Some, refl, sym, subst, arith, le-ltb, lt-ltb, eqb-true}
 use Rattle.std.proofs.lemmas.Bool.Decides.{nat_tests}
 use Rattle.std.proofs.lemmas.Str.{IsUtf8-append, IsUtf8-encode, IsUtf8-nil}
 use Rattle.std.specs.Char.{encode_utf8, IsScalar}
-use Rattle.std.specs.Str.{IsUtf8, encode_utf8_all, all_scalars}
+use Rattle.std.specs.Str.{IsUtf8}
 use Rattle.landxml_read.specs.declared.utf8.Utf8.{Utf8}
 use Rattle.landxml_read.specs.declared.utf8.Utf8.TheVariants.{Ready, One, Two, Three, AfterE0, AfterEd, AfterF0, AfterF4}
-use Rattle.landxml_read.specs.Utf8.{is_between, on_between, begun_by, utf8_next, is_ready, utf8_run}
-use Rattle.landxml_read.proofs.Tests.{both}
+use Rattle.landxml_read.specs.Utf8.{is_between, on_between, begun_by, utf8_next, utf8_run}
+use Rattle.landxml_read.proofs.Bytes.{both}
 
 -- characters of one to four bytes
 

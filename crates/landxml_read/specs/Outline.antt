@@ -1,14 +1,11 @@
 -- Where encoding and markup stand after some bytes.
-use Rattle.std.specs.Prelude.{◌≡◌, ℕ, ◌+◌, ◌-◌, ◌≤◌, ◌==◌, ◌&&◌, Bool, true, false, if◌then◌else◌, List, ◌++◌, length, Option, Some, None}
+use Rattle.std.specs.Prelude.{◌≡◌, ℕ, ◌-◌, ◌≤◌, ◌==◌, ◌&&◌, if◌then◌else◌, List, ◌++◌, length, Option, Some, None}
 use Rattle.landxml_read.specs.declared.standing.Standing.{Standing}
-use Rattle.landxml_read.specs.declared.scan.Level.{Level}
-use Rattle.landxml_read.specs.declared.scan.Level.TheVariants.{Before, Inside, After}
-use Rattle.landxml_read.specs.declared.scan.Part.{Part}
-use Rattle.landxml_read.specs.declared.scan.Part.TheVariants.{Bang}
+use Rattle.landxml_read.specs.declared.markup.Outline.{Outline}
 use Rattle.landxml_read.specs.declared.fault.DocCause.TheVariants.{Doctype, Syntax}
 use Rattle.landxml_read.specs.declared.utf8.Utf8.TheVariants.{Ready}
 use Rattle.landxml_read.specs.declared.fault.DocFault.{DocFault}
-use Rattle.landxml_read.specs.Faults.{Fault, fault}
+use Rattle.landxml_read.specs.Faults.{fault}
 use Rattle.landxml_read.specs.Answer.{IsLastUtf8, IsOutlineFault}
 use Rattle.landxml_read.specs.Scan.{run, start, is_bang}
 use Rattle.landxml_read.specs.Utf8.{utf8_run}
@@ -28,3 +25,10 @@ IsShownAt show bytes f = IsOutlineFault bytes (fault show f.cause f.at)
 -- what a byte that the scan doesn't take is reported as: after <! a D is a document type declaration, all else is syntax
 abbrev pub IsStrayFault : Standing → ℕ → DocFault → Type 0
 IsStrayFault s b f = f ≡ (if b == 68 && is_bang s.scan.part then record { at = s.offset - 2; cause = Doctype } else record { at = s.offset; cause = Syntax })
+
+-- what the reader has read: where encoding and markup stand after it, or the fault that it shows, whatever comes after it
+abbrev pub HasRead : List ℕ → Outline → Type 0
+HasRead seen o = by_fault o.fault where
+  by_fault : Option DocFault → Type 0
+  by_fault None = StandsAt seen o.standing
+  by_fault (Some f) = (more : List ℕ) → (show : ℕ) × IsShownAt show (seen ++ more) f

@@ -1,6 +1,6 @@
 //! The encoding and the markup of a document, whatever its elements mean.
 
-ghost use Rattle.std.specs.Prelude.{◌≡◌, ◌+◌, ◌<◌, ◌^◌, ◌≤◌, ◌++◌, ◌∷◌, [], ℕ, List, length, MatchResult, IfErr, OnOk, IsUtf8, if◌then◌else◌};
+ghost use Rattle.std.specs.Prelude.{◌≡◌, ◌+◌, ◌<◌, ◌^◌, ◌≤◌, ◌++◌, ◌∷◌, [], ℕ, List, length, MatchResult, IfErr, IfOk, OnOk, IsUtf8, if◌then◌else◌};
 ghost use Rattle.landxml_read.specs.Markup.{IsDocumentText};
 ghost use Rattle.landxml_read.specs.Utf8.{is_ready};
 ghost use Rattle.landxml_read.specs.Outline.{StandsAt, IsShownAt, IsStrayFault};
@@ -58,9 +58,10 @@ impl Standing {
     /// Where they stand after the byte, or the fault that it shows.
     pub(crate) fn after(self, b: u8) -> Result<Standing, DocFault>
         requires { self.offset + 1 < 2 ^ 32 }
-        ensures { (seen : List ℕ) → StandsAt seen self → MatchResult result
+        ensures stands { (seen : List ℕ) → StandsAt seen self → MatchResult result
             (λ now. StandsAt (seen ++ b ∷ []) now)
             (λ f. (more : List ℕ) → IsShownAt (length seen) (seen ++ b ∷ more) f) }
+        ensures offset { IfOk result (λ now. now.offset ≡ self.offset + 1) }
     {
         let Some(utf8) = self.utf8.after(b) else {
             return Err(DocFault {
@@ -78,6 +79,24 @@ impl Standing {
             offset: self.offset + 1,
             sequence,
         })
+    }
+
+    /// Where they stand after the piece, or the first fault that a byte of it shows.
+    pub(crate) fn feed(self, piece: &[u8]) -> Result<Standing, DocFault>
+        requires { self.offset + length piece.now < 2 ^ 32 }
+        ensures stands { (seen : List ℕ) → StandsAt seen self → MatchResult result
+            (λ now. StandsAt (seen ++ piece.now) now)
+            (λ f. (more : List ℕ) → (show : ℕ) × IsShownAt show ((seen ++ piece.now) ++ more) f) }
+        ensures offset { IfOk result (λ now. now.offset ≡ self.offset + length piece.now) }
+    {
+        let mut standing = self;
+        for b in piece {
+            match standing.after(*b) {
+                Ok(next) => standing = next,
+                Err(fault) => return Err(fault),
+            }
+        }
+        Ok(standing)
     }
 
     /// The fault at the end of the bytes.

@@ -1,5 +1,4 @@
-use Rattle.std.proofs.Common.{◌≡◌, ◌∙◌, List, ℕ, refl, sym, ap, arith, Bool, true, false, Some}
-use Rattle.landxml_read.specs.declared.utf8.Utf8.{Utf8}
+use Rattle.std.proofs.Common.{◌∙◌, sym}
 use Rattle.landxml_read.proofs.Outlines.{utf8_at_end, cut_at_end, utf8_whole, document_whole}
 use Rattle.landxml_read.proofs.standing.Standing.finish.Goals as goal
 
