@@ -6,7 +6,7 @@ use Rattle.landxml_read.specs.declared.scan.Level.{Level}
 use Rattle.landxml_read.specs.declared.scan.Level.TheVariants.{Before, Inside, After}
 use Rattle.landxml_read.specs.declared.scan.Part.TheVariants.{Start, Text}
 use Rattle.landxml_read.specs.Scan.{is_inside, start, run}
-use Rattle.landxml_read.proofs.Tests.{both, flip_true, differs}
+use Rattle.landxml_read.proofs.Bytes.{both, flip_true, differs}
 use Rattle.landxml_read.proofs.Accepting.{Ends}
 use Rattle.landxml_read.proofs.Running.{scan, from, if_true, if_false, step}
 use Rattle.landxml_read.proofs.Skipping.{comment_run, cdata_run, instruction_run}

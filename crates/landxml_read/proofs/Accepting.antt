@@ -11,7 +11,7 @@ use Rattle.landxml_read.specs.declared.skipped.Skipped.TheVariants.{Comment, Com
 use Rattle.landxml_read.specs.declared.tag.TagPart.{TagPart}
 use Rattle.landxml_read.specs.declared.tag.TagPart.TheVariants.{Name, White, Attribute, BeforeEquals, AfterEquals, DoubleQuoted, SingleQuoted, AfterValue, Slash}
 use Rattle.landxml_read.specs.Scan.{opened, passed, closed, is_inside, is_unclosed, at, only, text_next, open_next, bang_next, skipping, skipped_next, tag_end, white_or_end, before_quote, value_next, tag_next, end_next, part_next, next, is_final, run}
-use Rattle.landxml_read.proofs.Tests.{both, and_is}
+use Rattle.landxml_read.proofs.Bytes.{both, and_is}
 use Rattle.landxml_read.proofs.Closing.{Until, until_more, until_end, twice, no_first, no_second, no_third, no_mark, no_close}
 use Rattle.landxml_read.proofs.Following.{Rest, IsOutside, white_on, byte_on, comment_on, instruction_on, cdata_on, Ending, by_open, by_empty, Attributes, Named, Spaced, Quoted, Valued, element_on, end_on, white_before, attribute_before, end_here}
 

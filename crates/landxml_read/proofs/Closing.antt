@@ -2,7 +2,7 @@
 use Rattle.std.proofs.Common.{◌≡◌, ℕ, true, false, ◌==◌, ◌&&◌, not, List, [], ◌∷◌, ◌++◌, length, take, bytes_eq, codes, refl, sym, ◌∙◌, ap, arith, append_assoc, length-append}
 use Rattle.std.proofs.lemmas.List.{take-append-le}
 use Rattle.landxml_read.specs.Markup.{is_free, is_up_to}
-use Rattle.landxml_read.proofs.Tests.{and_is}
+use Rattle.landxml_read.proofs.Bytes.{and_is}
 
 -- the bytes go on to the first end, and what is left is an R
 pub record Until (R : List ℕ → Type 0) (end ys : List ℕ) : Type 0 where

@@ -5,7 +5,7 @@ use Rattle.landxml_read.specs.Markup.{is_white, is_free, begins_name, is_in_name
 use Rattle.landxml_read.specs.declared.scan.Level.{Level}
 use Rattle.landxml_read.specs.declared.scan.Level.TheVariants.{Before, Inside, After}
 use Rattle.landxml_read.specs.Scan.{opened, passed, closed, is_unclosed}
-use Rattle.landxml_read.proofs.Tests.{both, and_is, white_free, differs}
+use Rattle.landxml_read.proofs.Bytes.{both, and_is, white_free, differs}
 use Rattle.landxml_read.proofs.Closing.{Until}
 
 -- content, an end tag, and then an R

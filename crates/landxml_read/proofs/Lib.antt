@@ -1,4 +1,5 @@
-pub mod Tests
+pub mod Bytes
+pub mod FirstFaults
 pub mod Closing
 pub mod Following
 pub mod Accepting
@@ -7,3 +8,8 @@ pub mod Skipping
 pub mod Tags
 pub mod Accepted
 pub mod Scanning
+pub mod Examples
+pub mod Sequences
+pub mod Encoded
+pub mod Depths
+pub mod Outlines

@@ -5,7 +5,7 @@ use Rattle.landxml_read.specs.declared.scan.Scan.{Scan}
 use Rattle.landxml_read.specs.declared.scan.Level.{Level}
 use Rattle.landxml_read.specs.declared.scan.Part.{Part}
 use Rattle.landxml_read.specs.Scan.{next, run}
-use Rattle.landxml_read.proofs.Tests.{both}
+use Rattle.landxml_read.proofs.Bytes.{both}
 
 -- the scan in a part at a level
 abbrev pub scan : Part → Level → Scan

@@ -1,5 +1,5 @@
 -- Each state of the scan goes on to a document, so a byte that no state takes is the first fault.
-use Rattle.std.proofs.Common.{◌≡◌, ℕ, zero, suc, ◌+◌, true, false, List, [], ◌∷◌, ◌++◌, codes, length, take, drop, ◌<◌, length-append, Option, None, Some, refl, sym, ◌∙◌, ap, subst, append_assoc, arith}
+use Rattle.std.proofs.Common.{◌≡◌, ℕ, zero, suc, true, false, List, [], ◌∷◌, ◌++◌, codes, length, Option, None, Some, refl, sym, ◌∙◌, ap, subst}
 use Rattle.landxml_read.specs.Markup.{IsDocumentText}
 use Rattle.landxml_read.specs.declared.scan.Scan.{Scan}
 use Rattle.landxml_read.specs.declared.scan.Level.{Level}
@@ -11,13 +11,12 @@ use Rattle.landxml_read.specs.declared.skipped.Skipped.TheVariants.{Comment, Com
 use Rattle.landxml_read.specs.declared.tag.TagPart.{TagPart}
 use Rattle.landxml_read.specs.declared.tag.TagPart.TheVariants.{Name, White, Attribute, BeforeEquals, AfterEquals, DoubleQuoted, SingleQuoted, AfterValue, Slash}
 use Rattle.landxml_read.specs.Scan.{passed, closed, next, is_final, start, run}
-use Rattle.landxml_read.proofs.Tests.{clash}
+use Rattle.landxml_read.proofs.Bytes.{clash}
 use Rattle.landxml_read.proofs.Accepting.{Ends, accepts}
+use Rattle.landxml_read.proofs.FirstFaults.{fault_at, no_fault}
 use Rattle.landxml_read.proofs.Running.{from}
 use Rattle.landxml_read.proofs.Accepted.{accepted}
 use Rattle.ground_num.specs.FirstFault.{Begins, IsFirstFault}
-use Rattle.std.proofs.lemmas.List.{take-append-le, take-append-drop}
-use Rattle.std.proofs.Math.Seq.{take-append-add}
 
 -- what closes the elements that are open
 abbrev closing : Level → List ℕ
@@ -113,37 +112,10 @@ not_whole xs s e open_end d =
     let final : is_final s ≡ true = subst P (ap (run (Some start)) (sym d.2) ∙ e) (accepted d.0 d.1) in
     clash _ final open_end
 
--- a front of a front that begins a document begins one
-begins_less : (xs ys : List ℕ) → Begins IsDocumentText (xs ++ ys) → Begins IsDocumentText xs
-begins_less xs ys b = let P : List ℕ → Type 0 = IsDocumentText in (ys ++ b.0, subst P (append_assoc xs ys b.0) b.1)
-
 -- the first fault after what the scan has taken
 pub fault_after : (xs : List ℕ) (s : Scan) (b : ℕ) (more : List ℕ) → run (Some start) xs ≡ Some s → next s b ≡ None → IsFirstFault IsDocumentText (xs ++ b ∷ more) (length xs)
-fault_after xs s b more e none = record {
-  within = omega (arith, length-append xs (b ∷ more));
-  allowed = λ j less. front_begins j less;
-  not_allowed = λ _ begins. not_begun xs s b begins.0 e none (at_fault begins);
-}
-  where
-    P : List ℕ → Type 0
-    P = IsDocumentText
-
-    front_begins : (j : ℕ) → j < length xs → Begins IsDocumentText (take (j + 1) (xs ++ b ∷ more))
-    front_begins j less =
-        let Q : List ℕ → Type 0 = Begins IsDocumentText in
-        subst Q (sym (take-append-le (j + 1) xs (b ∷ more) (omega arith)))
-        (begins_less (take (j + 1) xs) (drop (j + 1) xs) (subst Q (sym (take-append-drop (j + 1) xs)) (begun xs s e)))
-
-    at_fault : (begins : Begins IsDocumentText (take (length xs + 1) (xs ++ b ∷ more))) → IsDocumentText (xs ++ b ∷ begins.0)
-    at_fault begins =
-        let Q : List ℕ → Type 0 = IsDocumentText in
-        let front : take (length xs + 1) (xs ++ b ∷ more) ≡ xs ++ b ∷ [] = take-append-add xs (b ∷ more) 1 in
-        subst Q (ap (λ w. w ++ begins.0) front ∙ append_assoc xs (b ∷ []) begins.0) begins.1
+fault_after xs s b more e none = fault_at IsDocumentText xs b more (begun xs s e) (λ rest d. not_begun xs s b rest e none d)
 
 -- and where the scan has taken all, there is none
-pub no_fault : (xs : List ℕ) (s : Scan) → run (Some start) xs ≡ Some s → IsFirstFault IsDocumentText xs (length xs)
-no_fault xs s e = record {
-  within = omega arith;
-  allowed = λ j less. let Q : List ℕ → Type 0 = Begins IsDocumentText in begins_less (take (j + 1) xs) (drop (j + 1) xs) (subst Q (sym (take-append-drop (j + 1) xs)) (begun xs s e));
-  not_allowed = λ less. absurd (omega arith);
-}
+pub no_fault_in : (xs : List ℕ) (s : Scan) → run (Some start) xs ≡ Some s → IsFirstFault IsDocumentText xs (length xs)
+no_fault_in xs s e = no_fault IsDocumentText xs (begun xs s e)

@@ -7,7 +7,7 @@ use Rattle.landxml_read.specs.declared.scan.Part.TheVariants.{Text, In}
 use Rattle.landxml_read.specs.declared.skipped.Skipped.{Skipped}
 use Rattle.landxml_read.specs.declared.skipped.Skipped.TheVariants.{Comment, CommentDash, CommentDashes, Instruction, InstructionMark, CData, CDataBracket, CDataBrackets}
 use Rattle.landxml_read.specs.Scan.{at, skipping, skipped_next}
-use Rattle.landxml_read.proofs.Tests.{both, clash, flip_true}
+use Rattle.landxml_read.proofs.Bytes.{both, clash, flip_true}
 use Rattle.landxml_read.proofs.Closing.{twice}
 use Rattle.landxml_read.proofs.Running.{scan, from, if_true, if_false, step}
 

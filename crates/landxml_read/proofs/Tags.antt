@@ -9,7 +9,7 @@ use Rattle.landxml_read.specs.declared.scan.Part.TheVariants.{Text, Open, Tag, E
 use Rattle.landxml_read.specs.declared.tag.TagPart.{TagPart}
 use Rattle.landxml_read.specs.declared.tag.TagPart.TheVariants.{Name, White, Attribute, BeforeEquals, AfterEquals, DoubleQuoted, SingleQuoted, AfterValue}
 use Rattle.landxml_read.specs.Scan.{opened, passed, closed, is_inside, is_unclosed, value_next, tag_next}
-use Rattle.landxml_read.proofs.Tests.{both, flip_true, differs, white_in_no_name, white_begins_no_name, quote_cases}
+use Rattle.landxml_read.proofs.Bytes.{both, flip_true, differs, white_in_no_name, white_begins_no_name, quote_cases}
 use Rattle.landxml_read.proofs.Running.{scan, from, if_true, if_false, step, stays}
 
 -- after a name, white or a value the rest of a tag brings the scan there

@@ -29,14 +29,24 @@ IsOfTree bytes f =
     (f.show < length bytes)
     × ((more : List ℕ) × (d : Document) × IsDocument d × (take (f.show + 1) bytes ++ more ≡ document_text d) × Contains (tree_faults d) f)
 
--- the bytes show the fault
-abbrev pub Shows : List ℕ → Fault → Type 0
-Shows bytes f = by_cause f.cause where
+-- the bytes show a fault of their encoding or markup, whatever the elements mean
+abbrev pub ShowsOutline : List ℕ → Fault → Type 0
+ShowsOutline bytes f = by_cause f.cause where
   by_cause : DocCause → Type 0
   by_cause Utf8 = IsNotUtf8 bytes f
   by_cause Doctype = IsStray bytes f × (f.place + 2 ≡ f.show) × (take 3 (drop f.place bytes) ≡ codes "<!D")
   by_cause Syntax = IsStray bytes f × (f.place ≡ f.show)
   by_cause Cut = IsCut bytes f × (f.place ≡ f.show)
+  by_cause _ = ⊥
+
+-- the bytes show the fault
+abbrev pub Shows : List ℕ → Fault → Type 0
+Shows bytes f = by_cause f.cause where
+  by_cause : DocCause → Type 0
+  by_cause Utf8 = ShowsOutline bytes f
+  by_cause Doctype = ShowsOutline bytes f
+  by_cause Syntax = ShowsOutline bytes f
+  by_cause Cut = ShowsOutline bytes f
   by_cause _ = IsOfTree bytes f
 
 -- the place of a cause in the table
@@ -78,3 +88,8 @@ pub record IsTreeOf (bytes : List ℕ) (d : Document) : Type 0 where
   pub shaped : IsDocument d
   pub text : bytes ≡ document_text d
   pub faultless : tree_faults d ≡ []
+
+-- the fault of the bytes' encoding or markup
+pub record IsOutlineFault (bytes : List ℕ) (f : Fault) : Type 0 where
+  pub shown : ShowsOutline bytes f
+  pub first : (g : Fault) → ShowsOutline bytes g → IsBefore f g

@@ -7,3 +7,5 @@ pub mod Faults
 pub mod Lists
 pub mod Answer
 pub mod Scan
+pub mod Utf8
+pub mod Outline

@@ -1,5 +1,5 @@
 -- What a faultless tree holds: its unit, and of each surface the triples, pairs, lines, ids and faces, in document order.
-use Rattle.std.specs.Prelude.{◌≡◌, ℕ, zero, suc, ◌+◌, Bool, true, false, ◌==◌, nat_lt, List, [], ◌∷◌, ◌++◌, length, map, filter, flat_map, filter_map, codes, bytes_eq, Option, Some, None, if◌then◌else◌, unwrap_or}
+use Rattle.std.specs.Prelude.{ℕ, zero, suc, ◌+◌, nat_lt, List, [], ◌∷◌, ◌++◌, length, map, filter, flat_map, filter_map, codes, bytes_eq, Option, Some, None, if◌then◌else◌, unwrap_or}
 use Rattle.ground_num.specs.declared.head.LinearUnit.{LinearUnit}
 use Rattle.ground_num.specs.declared.head.LinearUnit.TheVariants.{Meter, Foot, USSurveyFoot}
 use Rattle.ground_num.specs.declared.decimal.Thousandths.{Thousandths}

@@ -1,5 +1,5 @@
 -- The number that a word spells.
-use Rattle.std.specs.Prelude.{ℕ, Bool, true, false, ◌==◌, ◌&&◌, ◌||◌, not, List, [], ◌∷◌, ◌++◌, length, Option, Some, None, option_map, if◌then◌else◌, nat_lt, ℤ, pos}
+use Rattle.std.specs.Prelude.{ℕ, Bool, false, ◌==◌, ◌&&◌, ◌||◌, not, List, [], ◌∷◌, ◌++◌, length, Option, Some, None, option_map, if◌then◌else◌, nat_lt, ℤ, pos}
 use Rattle.std.specs.List.{list_all}
 use Rattle.ground_num.specs.Spelling.{Sign, Bare, Plus, Minus, Exponent, Decimal, magnitude, thousandths, number_limit}
 use Rattle.ground_num.specs.Reading.{is_digit}

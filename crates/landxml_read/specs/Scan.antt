@@ -42,11 +42,15 @@ is_unclosed Before = true
 is_unclosed (Inside k) = true
 is_unclosed After = false
 
+-- how many elements are open in the root
+abbrev pub inner_depth : Level → ℕ
+inner_depth Before = 0
+inner_depth (Inside k) = k
+inner_depth After = 0
+
 -- fewer than 2 ^ 32 - 1 elements are open in the root
 abbrev pub IsShallow : Level → Type 0
-IsShallow Before = Unit {0}
-IsShallow (Inside k) = k + 1 < 2 ^ 32
-IsShallow After = Unit {0}
+IsShallow level = inner_depth level + 1 < 2 ^ 32
 
 -- the scan in a part at a level
 abbrev pub at : Level → Part → Option Scan
@@ -151,6 +155,11 @@ part_next level EndWhite b = end_next level b
 -- the scan after a byte, where a document goes on with it
 abbrev pub next : Scan → ℕ → Option Scan
 next s b = part_next s.level s.part b
+
+-- after <!
+abbrev pub is_bang : Part → Bool
+is_bang Bang = true
+is_bang _ = false
 
 -- a document may end here
 abbrev pub is_final : Scan → Bool

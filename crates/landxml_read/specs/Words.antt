@@ -1,5 +1,5 @@
 -- The text of an element: its words, parted by white and by all that isn't text.
-use Rattle.std.specs.Prelude.{ℕ, ◌+◌, Bool, true, false, ◌==◌, List, [], ◌∷◌, ◌++◌, length, filter_map, Option, Some, None, if◌then◌else◌}
+use Rattle.std.specs.Prelude.{ℕ, ◌+◌, Bool, true, false, ◌==◌, List, [], ◌∷◌, length, Option, Some, None, if◌then◌else◌}
 use Rattle.landxml_read.specs.Markup.{is_white, Content, Nothing, Byte, Comment, Instruction, CData, Empty, Element, content_text, empty_text, start_text, end_text}
 
 -- what stands directly in an element: a byte of its text, CDATA, or anything else

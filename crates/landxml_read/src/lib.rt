@@ -4,16 +4,21 @@
 
 mod byte;
 mod fault;
-mod laws;
 mod list;
+mod markup;
+mod outline;
 mod raw;
 mod scan;
 mod skipped;
+mod standing;
 mod tag;
+#[cfg(test)]
+mod tests;
+mod utf8;
 
 pub use fault::{DocCause, DocFault};
-pub use laws::scan_law;
 pub use list::RawList;
+pub use markup::Outline;
 pub use raw::{
     Pair2, Pairs, RawDoc, RawFace, RawFaces, RawId, RawIds, RawKind, RawLine, RawLines, RawSurface,
     RawSurfaces, RawVertex, RawVertices, Triple, Triples,
