@@ -30,3 +30,4 @@ pub mod FlipKept
 pub mod FlipFalls
 pub mod IllegalEdge
 pub mod FlipLaws
+pub mod Patched
