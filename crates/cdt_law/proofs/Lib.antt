@@ -26,6 +26,7 @@ pub mod FacetsOnce
 pub mod NoWallOver
 pub mod FlipQuad
 pub mod Exchanged
+pub mod FlipEdges
 pub mod FlipKept
 pub mod FlipFalls
 pub mod IllegalEdge
