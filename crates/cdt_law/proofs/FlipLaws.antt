@@ -106,7 +106,7 @@ never_good net sheet s within p q r d at_left at_right free deep_d good =
         turn_z = subst (λ (k : Corner). IsTurn o.triangle (At q) (At p) k) fourth.is o.turn
 
 -- ---- the depth is that of the other triangle
-depth-exchanged : (a b c d : Lifted) → depth a b c d ≡ depth b a d c
+pub depth-exchanged : (a b c d : Lifted) → depth a b c d ≡ depth b a d c
 unfolding side depth
 depth-exchanged a b c d =
     ring (a.at.e ∷ a.at.n ∷ b.at.e ∷ b.at.n ∷ c.at.e ∷ c.at.n ∷ d.at.e ∷ d.at.n ∷ a.height ∷ b.height ∷ c.height ∷ d.height ∷ [])
@@ -121,7 +121,7 @@ off_left net sheet s within p q r good a b c d Once left right free deep_d = nev
 off_left net sheet s within p q r good a b c d Twice left right free deep_d = never_good net sheet s within r p q d left right free deep_d (good-turned s (At q) (At r) (At p) (good-turned s (At p) (At q) (At r) good))
 
 -- the count does not look at the direction
-count-back : (net : Net) → IsSheet net → (a b : Corner) → count_of net a b ≡ 0 → count_of net b a ≡ 0
+pub count-back : (net : Net) → IsSheet net → (a b : Corner) → count_of net a b ≡ 0 → count_of net b a ≡ 0
 count-back net sheet (At p) (At q) e = sheet.even q p ∙ e
 count-back net sheet (At p) (Far k) e = refl
 count-back net sheet (Far j) (At q) e = refl

@@ -21,7 +21,7 @@ use Rattle.predicates.proofs.CrossedEdges.{Crosses}
 use Rattle.predicates.proofs.Owners.{owner, turn-side}
 use Rattle.predicates.proofs.NeverCross.{uncrossed}
 use Rattle.predicates.proofs.OneEach.{rim-far, far-left}
-use Rattle.predicates.proofs.PointsApart.{InNet}
+use Rattle.predicates.proofs.NearCorners.{InNet}
 use Rattle.cdt_law.proofs.Walk.{turn-valid}
 use Rattle.cdt_law.proofs.GoodInSheet.{sheet-only}
 

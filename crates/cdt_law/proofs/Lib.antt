@@ -26,7 +26,9 @@ pub mod FacetsOnce
 pub mod NoWallOver
 pub mod FlipQuad
 pub mod Exchanged
+pub mod FlipEdges
 pub mod FlipKept
 pub mod FlipFalls
 pub mod IllegalEdge
 pub mod FlipLaws
+pub mod Patched

@@ -3,6 +3,7 @@
 #![tactic(auto)]
 
 ghost use Rattle.cdt_law.specs.Flips.{DestroyedLaw, EditLaw, FallLaw, FlipLaw, KeptLaw};
+ghost use Rattle.cdt_law.specs.Patch.{PatchLaw};
 ghost use Rattle.cdt_law.specs.Laws.{EdgeLaw, FacetLaw, FirstLaw, LocalLaw, NetLaw, OnceLaw, UniqueLaw};
 
 /// The triangle of the far corners alone is a locally Delaunay sheet of no points: the laws below are about something.
@@ -70,4 +71,10 @@ pub fn kept_law()
 /// triangles, a natural number. So however such flips are chosen, they come to an end.
 pub fn fall_law()
     ensures { FallLaw }
+{}
+
+/// Planned triangles fit into a newer sheet that still has the triangles in whose place they stand, and those beside: the
+/// result is a locally Delaunay sheet, so its triangles of three places are the facets of its points and pieces.
+pub fn patch_law()
+    ensures { PatchLaw }
 {}

@@ -17,7 +17,8 @@ use Rattle.predicates.proofs.FarTriangle.{listed-place}
 use Rattle.predicates.proofs.Owners.{IsTurn, Still, Once, Twice}
 use Rattle.predicates.proofs.HasTriangles.{Found, any-found, any-at}
 use Rattle.predicates.proofs.OneEach.{closed-once}
-use Rattle.predicates.proofs.PointsApart.{InNet, closed-only}
+use Rattle.predicates.proofs.PointsApart.{closed-only}
+use Rattle.predicates.proofs.NearCorners.{InNet}
 use Rattle.predicates.proofs.Holding.{passes-each, turn-held, turn-has_corner, must-corner}
 
 -- a triangle of the net at p, in the turn that begins there

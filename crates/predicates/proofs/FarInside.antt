@@ -1,5 +1,5 @@
 -- A circle with far corners: the highest of the four decides what is inside.
-use Rattle.std.proofs.Common.{◌≡◌, ℕ, zero, suc, ◌*◌, ◌^◌, ◌≤◌, ◌<◌, ◌⊎◌, inl, inr, refl, sym, ap, subst, ◌∙◌, arith, [], ◌∷◌, Bool, true, false, ◌||◌}
+use Rattle.std.proofs.Common.{◌≡◌, ℕ, zero, suc, ◌*◌, ◌≤◌, ◌<◌, ◌⊎◌, inl, inr, refl, sym, ap, subst, ◌∙◌, arith, [], ◌∷◌, Bool, true, false, ◌||◌}
 use Rattle.std.specs.Prelude.{ℤ, pos, negsuc, neg_ℤ, ◌+ℤ◌, ◌-ℤ◌, ◌*ℤ◌, ◌<ℤ◌, ◌≤ℤ◌, unsigned_abs, IsTrue}
 use Rattle.std.specs.Ordering.{int_cmp, is_gt}
 use Rattle.std.proofs.lemmas.Int.{ints, by_lt_z}
@@ -8,82 +8,27 @@ use Rattle.ground_model.specs.declared.corner.Corner.{Corner}
 use Rattle.ground_model.specs.declared.corner.Corner.TheVariants.{At, Far}
 use Rattle.ground_model.specs.Place.{Coords, IsPlace}
 use Rattle.ground_model.specs.Side.{side, is_left}
-use Rattle.ground_model.specs.Height.{base, top}
 use Rattle.ground_model.specs.Lifted.{Lifted}
-use Rattle.ground_model.specs.Corner.{corner_at, corner_side, is_corner_inside, is_same_corner, far_height}
+use Rattle.ground_model.specs.Corner.{corner_at, corner_side, is_corner_inside, is_same_corner}
 use Rattle.ground_model.proofs.Ring.{var, num, ◌⊕◌, ◌⊖◌, ◌⊗◌, ring}
 use Rattle.ground_model.proofs.ZOrder.{size-mul}
 use Rattle.ground_model.proofs.Circle.{sideE, side-turned, side-parts}
-use Rattle.ground_model.proofs.Lifted.{top_is}
 use Rattle.ground_model.proofs.Ties.{turns_of_left}
 use Rattle.predicates.specs.Depth.{depth}
 use Rattle.predicates.specs.Far.{IsKnown, is_far, rank, is_between, is_inside_beside}
 use Rattle.predicates.proofs.Compared.{by_sign, cmp_less, cmp_greater, cmp_equal}
 use Rattle.predicates.proofs.Signs.{level-down, never-level, positive-along, weaken-neg}
 use Rattle.predicates.proofs.FlatSides.{flat_ab, flat_bc, flat_ca}
-use Rattle.predicates.proofs.Valid.{IsValid, Place, Far0, Far1, Far2}
+use Rattle.predicates.proofs.Valid.{IsValid, Place}
 use Rattle.predicates.proofs.FarOrientations.{valid-of, Flat, Three, Ends, AtEnd, flat}
 use Rattle.predicates.proofs.Edges.{corner-equal, corner-self}
 use Rattle.predicates.proofs.Heights.{lift, corner_height, deep}
 use Rattle.predicates.proofs.HigherPlanes.{depth-turned}
-use Rattle.predicates.proofs.FarNumbers.{outgrows, outweighed, height0_is, height1_is, height2_is}
 use Rattle.predicates.proofs.FourApart.{FourApart, deep_between, shallow_past_b, shallow_past_c}
-use Rattle.predicates.proofs.NoFourInPlane.{most, side-size, at-most, place-height, place-below}
+use Rattle.predicates.proofs.NoFourInPlane.{most, side-size}
 use Rattle.predicates.proofs.InsideDepths.{deep-inside, shallow-outside}
 use Rattle.predicates.proofs.Between.{is_between-true, is_between-past_b, is_between-past_c}
-
--- ---- the height of a far corner outweighs those of all lower corners
-record Highest (f : Corner) : Type 0 where
-  big : ℕ
-  rest : ℕ
-  high : corner_height f ≡ pos big
-  outweighs : 3 * (rest * most) < big
-  lower : (z : Corner) → IsValid z → rank f < rank z → unsigned_abs (corner_height z) ≤ rest
-
-lower0 : (z : Corner) → IsValid z → 0 < rank z → unsigned_abs (corner_height z) ≤ base ^ (16 * top)
-lower0 z (Place p h) lt = place-below p (16 * top) h (omega (arith, top_is))
-lower0 z Far0 lt = absurd (omega (arith, lt))
-lower0 z Far1 lt = omega (arith, height1_is)
-lower0 z Far2 lt = at-most (far_height 2) (base ^ (8 * top)) (base ^ (16 * top)) height2_is (outgrows (8 * top) (16 * top) (omega (arith, top_is)))
-
-lower1 : (z : Corner) → IsValid z → 1 < rank z → unsigned_abs (corner_height z) ≤ base ^ (8 * top)
-lower1 z (Place p h) lt = place-below p (8 * top) h (omega (arith, top_is))
-lower1 z Far0 lt = absurd (omega (arith, lt))
-lower1 z Far1 lt = absurd (omega (arith, lt))
-lower1 z Far2 lt = omega (arith, height2_is)
-
-lower2 : (z : Corner) → IsValid z → 2 < rank z → unsigned_abs (corner_height z) ≤ base ^ (2 * top)
-lower2 z (Place p h) lt = place-height p h
-lower2 z Far0 lt = absurd (omega (arith, lt))
-lower2 z Far1 lt = absurd (omega (arith, lt))
-lower2 z Far2 lt = absurd (omega (arith, lt))
-
-above-rest : (x y z : ℕ) → z ≡ y → x < y → x < z
-above-rest x y z e h = omega (arith, e, h)
-
-highest : (f : Corner) → IsValid f → rank f < 3 → Highest f
-highest f (Place p h) lt = absurd (omega (arith, lt))
-highest f Far0 lt = record {
-  big = far_height 0;
-  rest = base ^ (16 * top);
-  high = refl;
-  outweighs = above-rest (3 * (base ^ (16 * top) * most)) (base ^ (24 * top)) (far_height 0) height0_is (outweighed (16 * top) (24 * top) (omega (arith, top_is)));
-  lower = lower0;
-}
-highest f Far1 lt = record {
-  big = far_height 1;
-  rest = base ^ (8 * top);
-  high = refl;
-  outweighs = above-rest (3 * (base ^ (8 * top) * most)) (base ^ (16 * top)) (far_height 1) height1_is (outweighed (8 * top) (16 * top) (omega (arith, top_is)));
-  lower = lower1;
-}
-highest f Far2 lt = record {
-  big = far_height 2;
-  rest = base ^ (2 * top);
-  high = refl;
-  outweighs = above-rest (3 * (base ^ (2 * top) * most)) (base ^ (8 * top)) (far_height 2) height2_is (outweighed (2 * top) (8 * top) (omega (arith, top_is)));
-  lower = lower2;
-}
+use Rattle.predicates.proofs.Highest.{Highest, highest}
 
 -- ---- four corners of which the first three turn
 record Circle (a b c d : Corner) : Type 0 where

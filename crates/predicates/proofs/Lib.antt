@@ -26,6 +26,7 @@ pub mod InsideDepths
 -- tests over corners
 pub mod Between
 pub mod Edges
+pub mod Highest
 pub mod FarInside
 -- sums
 pub mod Sums
@@ -46,6 +47,7 @@ pub mod NeverCross
 pub mod HasTriangles
 pub mod OneOwner
 pub mod OneEach
+pub mod NearCorners
 pub mod PointsApart
 pub mod Holding
 pub mod ClosedLaw
