@@ -8,7 +8,8 @@ use Rattle.mesh.specs.Corners.{Distinct}
 use Rattle.mesh.specs.Meshes.{IsMesh, IsLive, corners_of}
 use Rattle.mesh.specs.Net.{Side, after, edge, edge_of, edges_of, corner_at, next_at, outside, slots_of, IsMet, OpenIn}
 use Rattle.mesh.proofs.Corners.{Owner, owner, distinct_from}
-use Rattle.mesh.proofs.Patched.{same_in, around, itself, one_on, two_on}
+use Rattle.mesh.proofs.NamedEdges.{same_in}
+use Rattle.mesh.proofs.Sides.{around, itself, one_on, two_on}
 use Rattle.mesh.proofs.Slots.{slot_in, live_real, is_some}
 
 -- a corner stands at one side of a triangle

@@ -8,7 +8,7 @@ use Rattle.std.specs.Prelude.{List}
 use Rattle.mesh.specs.Corners.{Distinct}
 use Rattle.mesh.specs.Meshes.{HasNoCorner, corners_of}
 use Rattle.mesh.specs.Net.{Side, first, second, third, after, Edge, edge, edge_of, edges_of, corner_at, slots_of}
-use Rattle.mesh.proofs.Patched.{same_in}
+use Rattle.mesh.proofs.NamedEdges.{same_in}
 
 -- the triangle of an edge
 pub record Owner (o : Option TriSlot) (k : Side) (e : Edge) : Type 0 where

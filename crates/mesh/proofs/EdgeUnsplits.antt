@@ -17,7 +17,8 @@ use Rattle.mesh.proofs.Acrosses.{foreign, no_edge_back, across_apart}
 use Rattle.mesh.proofs.Corners.{thrice, distinct_from}
 use Rattle.mesh.proofs.Filled.{Filled, kept_filled, mesh_of}
 use Rattle.mesh.proofs.FreedSlots.{FreedTwo}
-use Rattle.mesh.proofs.Patched.{same_in, patched}
+use Rattle.mesh.proofs.NamedEdges.{same_in}
+use Rattle.mesh.proofs.Patched.{patched}
 use Rattle.mesh.proofs.Redirected.{redirected_net, held}
 use Rattle.mesh.proofs.Shape.{Piece, IsPatch}
 use Rattle.mesh.proofs.Slots.{slot_in, live_real, is_some}

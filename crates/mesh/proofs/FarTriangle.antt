@@ -13,7 +13,7 @@ use Rattle.tri_pages.specs.Slots.{State, state_at, joined, blank, holding, put}
 use Rattle.mesh.specs.Corners.{Distinct}
 use Rattle.ground_model.specs.Place.{Coords}
 use Rattle.mesh.specs.Meshes.{corners_of, HasNoCorner, IsMesh}
-use Rattle.mesh.proofs.Patched.{same_in}
+use Rattle.mesh.proofs.NamedEdges.{same_in}
 
 abbrev number : Corner → ℕ
 number (At p) = 3

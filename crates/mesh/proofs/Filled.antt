@@ -10,7 +10,7 @@ use Rattle.mesh.specs.Corners.{Distinct}
 use Rattle.mesh.specs.Faces.{Face, face, KeepsFaces}
 use Rattle.mesh.specs.Meshes.{corners_of, IsMesh}
 use Rattle.mesh.specs.Net.{slots_of, IsNet}
-use Rattle.mesh.proofs.Patched.{same_in}
+use Rattle.mesh.proofs.NamedEdges.{same_in}
 use Rattle.mesh.proofs.WrittenSlots.{WroteTwo, WroteThree, WroteFour}
 
 -- each triangle has three corners

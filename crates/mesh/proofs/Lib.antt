@@ -8,10 +8,12 @@ pub mod FarTriangle
 pub mod Filled
 pub mod Flips
 pub mod FreedSlots
+pub mod NamedEdges
 pub mod Patched
 pub mod Recounts
 pub mod Redirected
 pub mod Shape
+pub mod Sides
 pub mod Slots
 pub mod Splits
 pub mod Stamps

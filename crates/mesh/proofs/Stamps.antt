@@ -8,7 +8,7 @@ use Rattle.mesh.specs.Meshes.{IsMesh, corners_of}
 use Rattle.mesh.specs.Net.{Side, edge_of, edges_of, outside, slots_of, IsNetBut, OpenIn}
 use Rattle.mesh.specs.Stamps.{stamped, IsStamped}
 use Rattle.mesh.proofs.FreedSlots.{WroteOne}
-use Rattle.mesh.proofs.Patched.{same_in}
+use Rattle.mesh.proofs.NamedEdges.{same_in}
 use Rattle.mesh.proofs.Slots.{slot_in}
 
 module _ (old new : List State) (s front : ℕ) (t : TriSlot) (mesh : IsMesh old) (here : triangle_at old s ≡ Some t) (real : s ≡ outside → ⊥) (w : WroteOne old new s (stamped t front)) where

@@ -15,10 +15,11 @@ start_part t k p y z = record { corners = corner_at t k ∷ p ∷ apex t k ∷ [
 abbrev pub end_part : TriSlot → Side → Corner → ℕ → ℕ → TriSlot
 end_part t k p y z = record { corners = p ∷ corner_at t (after k) ∷ apex t k ∷ []; counts = count_at t k ∷ count_at t (after k) ∷ 0 ∷ []; next = y ∷ next_at t (after k) ∷ z ∷ []; stamp = 0 }
 
--- their faces: the parts of ab keep its count
+-- the face of apc: both parts of ab keep its count
 abbrev pub start_face : TriSlot → Side → Corner → Face
 start_face t k p = record { corners = corner_at t k ∷ p ∷ apex t k ∷ []; counts = count_at t k ∷ 0 ∷ count_at t (after (after k)) ∷ []; stamp = 0 }
 
+-- the face of pbc
 abbrev pub end_face : TriSlot → Side → Corner → Face
 end_face t k p = record { corners = p ∷ corner_at t (after k) ∷ apex t k ∷ []; counts = count_at t k ∷ count_at t (after k) ∷ 0 ∷ []; stamp = 0 }
 

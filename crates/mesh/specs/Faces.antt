@@ -12,6 +12,7 @@ pub record Face : Type 0 where
   pub counts : List ℕ
   pub stamp : ℕ
 
+-- the face of a triangle
 abbrev pub face : TriSlot → Face
 face t = record { corners = t.corners; counts = t.counts; stamp = t.stamp }
 

@@ -5,6 +5,7 @@ use Rattle.tri_pages.specs.declared.tri_slot.TriSlot.{TriSlot}
 use Rattle.tri_pages.specs.Slots.{State, holding}
 use Rattle.mesh.specs.Net.{outside}
 
+-- the triangle of the three far corners, with nothing beyond
 abbrev pub far : TriSlot
 far = record { corners = Far 0 ∷ Far 1 ∷ Far 2 ∷ []; counts = 0 ∷ 0 ∷ 0 ∷ []; next = outside ∷ outside ∷ outside ∷ []; stamp = 0 }
 

@@ -7,7 +7,7 @@ use Rattle.mesh.specs.Faces.{Face, face_at}
 use Rattle.mesh.specs.Meshes.{IsLive}
 use Rattle.mesh.specs.Net.{Side, after, corner_at, count_at, next_at, slots_of}
 
--- t is abc from its side k on, u is bad from its side j on: adc and dbc take their places s and n
+-- t is abc from its side k on, u is bad from its side j on: adc, which takes the place s
 abbrev pub flip_one : TriSlot → Side → TriSlot → Side → ℕ → TriSlot
 flip_one t k u j n = record {
   corners = corner_at t k ∷ apex u j ∷ apex t k ∷ [];
@@ -16,6 +16,7 @@ flip_one t k u j n = record {
   stamp = 0;
 }
 
+-- dbc, which takes the place n
 abbrev pub flip_two : TriSlot → Side → TriSlot → Side → ℕ → TriSlot
 flip_two t k u j s = record {
   corners = apex u j ∷ corner_at t (after k) ∷ apex t k ∷ [];
@@ -24,10 +25,11 @@ flip_two t k u j s = record {
   stamp = 0;
 }
 
--- the faces of adc and dbc
+-- the face of adc
 abbrev pub flip_face_one : TriSlot → Side → TriSlot → Side → Face
 flip_face_one t k u j = record { corners = corner_at t k ∷ apex u j ∷ apex t k ∷ []; counts = count_at u (after j) ∷ 0 ∷ count_at t (after (after k)) ∷ []; stamp = 0 }
 
+-- the face of dbc
 abbrev pub flip_face_two : TriSlot → Side → TriSlot → Side → Face
 flip_face_two t k u j = record { corners = apex u j ∷ corner_at t (after k) ∷ apex t k ∷ []; counts = count_at u (after (after j)) ∷ count_at t (after k) ∷ 0 ∷ []; stamp = 0 }
 

@@ -4,6 +4,7 @@ use Rattle.tri_pages.specs.declared.tri_slot.TriSlot.{TriSlot}
 use Rattle.tri_pages.specs.Slots.{State, triangle_at}
 use Rattle.mesh.specs.Net.{slots_of}
 
+-- the triangle with another stamp
 abbrev pub stamped : TriSlot → ℕ → TriSlot
 stamped t front = record { corners = t.corners; counts = t.counts; next = t.next; stamp = front }
 

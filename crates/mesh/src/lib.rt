@@ -4,7 +4,7 @@
 
 mod across;
 mod count;
-mod counts;
+mod count_steps;
 mod edge_split;
 mod edge_unsplit;
 mod flip;

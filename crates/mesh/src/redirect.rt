@@ -15,12 +15,14 @@ use tri_pages::{TriPages, TriSlot};
 /// No slot: beyond the edges of the far triangle.
 pub(crate) const OUTSIDE: u32 = 4_294_967_295;
 
+// The slot beyond the edge ab: `next` where it is the edge from..to, else the old one.
 fn chosen(a: &Corner, b: &Corner, from: &Corner, to: &Corner, old: u32, next: u32) -> u32
     ensures { Chosen a.now b.now from.now to.now next old result }
 {
     if *a == *from && *b == *to { next } else { old }
 }
 
+// The triangle with `next` beyond its edge from..to, if it has that edge.
 fn turned(t: TriSlot, from: Corner, to: Corner, next: u32) -> TriSlot
     ensures { IsTurnedTri from to next t result }
 {

@@ -20,6 +20,7 @@ pub(crate) struct Seen {
     pub(crate) beyond_ca: u32,
 }
 
+/// The triangle from an edge on.
 pub(crate) fn seen_from(t: &TriSlot, edge: u8) -> Seen
     requires { edge < 3 }
     ensures a { result.a ≡ corner_at t.now (side edge) }

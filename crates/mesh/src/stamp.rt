@@ -20,6 +20,7 @@ fn with_stamp(t: TriSlot, front: u32) -> TriSlot
     value
 }
 
+// Sets the stamp of a slot of the pages.
 fn stamp_slot<L: Ledger>(
     pages: &mut TriPages,
     slot: u32,

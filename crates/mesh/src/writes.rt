@@ -8,6 +8,7 @@ use std::alloc::AllocError;
 use std::sync::ledger::Ledger;
 use tri_pages::{TriPages, TriSlot};
 
+/// Writes two triangles into taken slots.
 pub(crate) fn write_two<L: Ledger>(
     pages: &mut TriPages,
     s: u32,
@@ -25,6 +26,7 @@ pub(crate) fn write_two<L: Ledger>(
     Ok(())
 }
 
+/// Writes three triangles into taken slots.
 pub(crate) fn write_three<L: Ledger>(
     pages: &mut TriPages,
     s: u32,
@@ -45,6 +47,7 @@ pub(crate) fn write_three<L: Ledger>(
     Ok(())
 }
 
+/// Writes four triangles into taken slots.
 pub(crate) fn write_four<L: Ledger>(
     pages: &mut TriPages,
     s: u32,
