@@ -3,7 +3,7 @@ use Rattle.ground_model.specs.declared.entry.Entry.{Entry}
 use Rattle.turn_lock.specs.declared.journal.Journal.{Journal}
 use Rattle.turn_lock.specs.Journal.{extended}
 use Rattle.turn_lock.specs.Seat.{Seat}
-use Rattle.turn_lock.proofs.tests.make_entry.Goals as goal
+use Rattle.lock_tests.proofs.seats.make_entry.Goals as goal
 
 pub leave-requires : goal.leave-requires
 leave-requires g c =

@@ -4,7 +4,6 @@ ghost use Rattle.std.specs.Prelude.{◌≡◌, ℕ, ◌+◌, ◌-◌, ◌<◌, �
 ghost use Rattle.turn_lock.specs.Insides.{removal};
 ghost use Rattle.turn_lock.specs.Seat.{numbers_of, IsLast, AreAll};
 
-use crate::{Filed, TurnLock, TurnSeat};
 use ground_model::{Edit, Entry, Limits, LineId};
 use ground_num::{Head, LinearUnit, Name, Origin, Thousandths};
 use std::alloc::Global;
@@ -12,6 +11,7 @@ use std::process::Abort;
 use std::sync::Wait;
 use std::thread;
 use std::thread::Threads;
+use turn_lock::{Filed, TurnLock, TurnSeat};
 
 // A value with a journal and nothing else.
 #[derive(Drop)]

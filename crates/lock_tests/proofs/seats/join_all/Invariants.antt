@@ -1,7 +1,7 @@
 use Rattle.std.proofs.Common.{◌≡◌, ◌+◌, ◌++◌, vec_len}
 use Rattle.std.specs.List.{All, flat_map}
 use Rattle.turn_lock.specs.Seat.{Seat, numbers_of, HasAll}
-use Rattle.turn_lock.proofs.tests.join_all.Given as goal
+use Rattle.lock_tests.proofs.seats.join_all.Given as goal
 
 abbrev pub invariant-loop-left : goal.invariant-loop-left
 invariant-loop-left g l = record {

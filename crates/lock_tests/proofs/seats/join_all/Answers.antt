@@ -2,7 +2,7 @@ use Rattle.std.proofs.Common.{◌≡◌, ◌<◌, ◌++◌, List, length, sym, a
 use Rattle.std.specs.List.{All, flat_map}
 use Rattle.turn_lock.specs.Seat.{Seat, numbers_of, HasAll}
 use Rattle.turn_lock.proofs.Gathers.{in_reach, first_removed, next_removed, none_left, remove_of_lock}
-use Rattle.turn_lock.proofs.tests.join_all.Goals as goal
+use Rattle.lock_tests.proofs.seats.join_all.Goals as goal
 
 pub loop-left-init : goal.loop-left-init
 loop-left-init g c =

@@ -1,6 +1,6 @@
 use Rattle.std.proofs.Common.{◌∙◌, sym, subst, ◌<◌}
 use Rattle.turn_lock.proofs.Gathers.{same_all}
-use Rattle.turn_lock.proofs.tests.check_in_threads.Goals as goal
+use Rattle.lock_tests.proofs.seats.check_in_threads.Goals as goal
 
 pub join_all-requires : goal.join_all-requires
 join_all-requires g c =
