@@ -1,96 +1,58 @@
 //! Triangulations worked out by hand. Places are written easting first.
 
-use crate::facets;
-use ground_model::{Facet, Piece, Place};
-use std::alloc::Global;
+use crate::fixtures::{At, Corners, Joined, facets as facets_at, pieces, place, places};
+use ground_model::Place;
+use slow_tri::facets;
+use std::alloc::{AllocError, Global};
 use std::process::Abort;
 use std::test::Fail;
 
-type At = (i32, i32);
-
-/// The ends of a piece and its count.
-type Joined = (At, At, u16);
-
-/// The corners of a facet and the counts of its edges.
-type Corners = ([At; 3], [u16; 3]);
-
-fn place(rt: &impl Abort, at: At) -> Place {
-    Place::new(at.0, at.1).expect(rt, "a place")
-}
-
-fn places(rt: &impl Abort, alloc: Global, ats: &[At]) -> Result<Vec<Place>, Fail> {
-    let mut all = Vec::new(alloc);
-    for at in ats {
-        all.push(place(rt, *at))?;
-    }
-    Ok(all)
-}
-
-fn pieces(rt: &impl Abort, alloc: Global, joined: &[Joined]) -> Result<Vec<Piece>, Fail> {
-    let mut all = Vec::new(alloc);
-    for (p, q, count) in joined {
-        let (p, q, count) = (place(rt, *p), place(rt, *q), *count);
-        all.push(Piece { p, q, count })?;
-    }
-    Ok(all)
-}
-
-fn facet(rt: &impl Abort, corners: &Corners) -> Facet {
-    let ([a, b, c], [ab, bc, ca]) = *corners;
-    let (a, b, c) = (place(rt, a), place(rt, b), place(rt, c));
-    Facet {
-        a,
-        b,
-        c,
-        ab,
-        bc,
-        ca,
-    }
-}
-
 // Compares the whole list, its order too.
-fn compare(rt: &impl Abort, found: &[Facet], want: &[Corners]) {
-    assert_eq!(rt; found.len(), want.len());
-    for (found, want) in found.iter().zip(want) {
-        assert_eq!(rt; *found, facet(rt, want));
-    }
-}
-
 fn check(
     rt: &impl Abort,
     alloc: Global,
     ats: &[At],
     joined: &[Joined],
     want: &[Corners],
-) -> Result<(), Fail> {
+) -> Result<(), AllocError> {
     let points = places(rt, alloc, ats)?;
     let pieces = pieces(rt, alloc, joined)?;
     let found = facets(alloc, points.as_slice(), pieces.as_slice())?;
-    compare(rt, found.as_slice(), want);
+    let want = facets_at(rt, alloc, want)?;
+    assert_eq!(rt; found.as_slice(), want.as_slice());
     Ok(())
 }
 
 const SQUARE: [At; 4] = [(0, 0), (0, 10), (10, 0), (10, 10)];
 
-// The square with the facets in order, whatever the order of its points.
-fn check_order(rt: &impl Abort, alloc: Global, order: usize) -> Result<(), Fail> {
+const ALONG_THE_LEAST: [Corners; 2] = [
+    ([(0, 0), (10, 0), (10, 10)], [0, 0, 0]),
+    ([(0, 0), (10, 10), (0, 10)], [0, 0, 0]),
+];
+
+fn insert(rt: &impl Abort, ats: &mut Vec<At>, index: usize, at: At) -> Result<(), AllocError> {
+    assert!(rt; index <= ats.len());
+    Ok(ats.insert(index, at)?)
+}
+
+// The corners of the square in one of their 24 orders.
+fn square(rt: &impl Abort, alloc: Global, order: usize) -> Result<Vec<At>, AllocError> {
     let [a, b, c, d] = SQUARE;
     let mut ats = vec![in alloc; a]?;
-    let (at_b, at_c, at_d) = (order % 2, order % 3, order / 6);
-    assert!(rt; at_b <= ats.len());
-    ats.insert(at_b, b)?;
-    assert!(rt; at_c <= ats.len());
-    ats.insert(at_c, c)?;
-    assert!(rt; at_d <= ats.len());
-    ats.insert(at_d, d)?;
+    insert(rt, &mut ats, order % 2, b)?;
+    insert(rt, &mut ats, order % 3, c)?;
+    insert(rt, &mut ats, order / 6, d)?;
+    Ok(ats)
+}
+
+// The square with the facets in order, whatever the order of its points.
+fn check_order(rt: &impl Abort, alloc: Global, order: usize) -> Result<(), AllocError> {
+    let ats = square(rt, alloc, order)?;
     let points = places(rt, alloc, ats.as_slice())?;
     let mut found = facets(alloc, points.as_slice(), &[])?.into_vec();
     found.sort_unstable();
-    let want = [
-        ([(0, 0), (10, 0), (10, 10)], [0, 0, 0]),
-        ([(0, 0), (10, 10), (0, 10)], [0, 0, 0]),
-    ];
-    compare(rt, found.as_slice(), &want);
+    let want = facets_at(rt, alloc, &ALONG_THE_LEAST)?;
+    assert_eq!(rt; found.as_slice(), want.as_slice(), "in order {order}");
     Ok(())
 }
 
@@ -115,7 +77,7 @@ fn a_piece_turns_the_diagonal_of_the_square(rt: HostRuntime) -> Result<(), Fail>
         ([(0, 0), (10, 0), (10, 10)], [0, 0, 3]),
         ([(0, 0), (10, 10), (0, 10)], [3, 0, 1]),
     ];
-    check(&rt, rt.alloc(), &SQUARE, &along, &kept)
+    Ok(check(&rt, rt.alloc(), &SQUARE, &along, &kept)?)
 }
 
 #[test]
@@ -130,7 +92,7 @@ fn hexagon_with_its_centre_has_six_facets(rt: HostRuntime) -> Result<(), Fail> {
         ([(0, 0), (3, -4), (5, 0)], [0, 0, 1]),
         ([(0, 0), (5, 0), (3, 4)], [1, 0, 0]),
     ];
-    check(&rt, rt.alloc(), &ats, &middle, &want)
+    Ok(check(&rt, rt.alloc(), &ats, &middle, &want)?)
 }
 
 #[test]
@@ -168,7 +130,7 @@ fn each_square_of_a_grid_keeps_its_least_diagonal(rt: HostRuntime) -> Result<(),
         ([(1, 1), (2, 1), (2, 2)], [0, 0, 0]),
         ([(1, 1), (2, 2), (1, 2)], [0, 0, 0]),
     ];
-    check(&rt, rt.alloc(), &ats, &across, &turned)
+    Ok(check(&rt, rt.alloc(), &ats, &across, &turned)?)
 }
 
 #[test]
@@ -176,7 +138,7 @@ fn points_without_an_area_have_no_facet(rt: HostRuntime) -> Result<(), Fail> {
     check(&rt, rt.alloc(), &[], &[], &[])?;
     check(&rt, rt.alloc(), &[(0, 0), (1, 0)], &[], &[])?;
     let collinear = [(0, 0), (1, 1), (2, 2), (3, 3)];
-    check(&rt, rt.alloc(), &collinear, &[], &[])
+    Ok(check(&rt, rt.alloc(), &collinear, &[], &[])?)
 }
 
 /// One more than the places on a ray: a prime, so that steps of any length come to each of them.
@@ -184,7 +146,7 @@ const RAY: i32 = 173;
 
 // The origin and three rays from it. The order is scattered, so that a triangle with a point
 // inside is soon seen to have one.
-fn three_rays(rt: &impl Abort, alloc: Global) -> Result<Vec<Place>, Fail> {
+fn three_rays(rt: &impl Abort, alloc: Global) -> Result<Vec<Place>, AllocError> {
     let mut all = vec![in alloc; place(rt, (0, 0))]?;
     for j in 1..RAY {
         let k = j.wrapping_mul(107) % RAY;

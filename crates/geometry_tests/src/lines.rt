@@ -9,14 +9,12 @@ ghost use Rattle.ground_model.specs.Line.{is_point as is_point_of};
 ghost use Rattle.ground_model.specs.Crossings.{is_on_points};
 ghost use Rattle.ground_model.specs.Table.{live};
 
-use crate::pieces::order;
-use crate::{Line, Lines, self_cross};
+use crate::fixtures::{At, Joined, pieces, place, places};
 use ground_model::{LineId, LineKind, Piece, Place, Places};
+use line_table::{Line, Lines, self_cross};
 use std::alloc::{AllocError, Global};
 use std::process::Abort;
 use std::test::Fail;
-
-type At = (i32, i32);
 
 const RING: [At; 4] = [(0, 0), (10, 0), (10, 10), (0, 10)];
 
@@ -26,23 +24,19 @@ const THERE_AND_BACK: [At; 3] = [(5, 0), (10, 0), (5, 0)];
 
 const POINTS: [At; 7] = [(0, 0), (0, 10), (5, 0), (5, 5), (10, 0), (10, 5), (10, 10)];
 
-fn place(rt: &impl Abort, at: At) -> Place {
-    Place::new(at.0, at.1).expect(rt, "a place")
-}
-
-fn vector(rt: &impl Abort, alloc: Global, ats: &[At]) -> Result<Vec<Place>, AllocError> {
-    let mut all = Vec::new(alloc);
-    for at in ats {
-        all.push(place(rt, *at))?;
-    }
-    Ok(all)
+// Puts the places in order, and leaves each once.
+fn order(places: &mut Vec<Place>)
+    ensures { IsStrictlySortedBy place_cmp places.new.items }
+{
+    places.sort_unstable();
+    places.dedup();
 }
 
 // The points of a surface, in order.
 fn points(rt: &impl Abort, alloc: Global, ats: &[At]) -> Result<Vec<Place>, AllocError>
     ensures { IfOk result (λ points. IsStrictlySortedBy place_cmp points.items) }
 {
-    let mut all = vector(rt, alloc, ats)?;
+    let mut all = places(rt, alloc, ats)?;
     order(&mut all);
     Ok(all)
 }
@@ -64,7 +58,7 @@ fn table(
 ) -> Result<Lines, AllocError> {
     let mut lines = Lines::empty(alloc);
     for (kind, ats) in rows {
-        let places = Places::from_vec(vector(rt, alloc, ats)?);
+        let places = Places::from_vec(places(rt, alloc, ats)?);
         let _number = add(rt, &mut lines, *kind, places);
     }
     Ok(lines)
@@ -92,52 +86,117 @@ fn is_live(lines: &Lines, id: LineId) -> bool
     }
 }
 
-fn compare(rt: &impl Abort, found: &[Piece], want: &[(At, At, u16)]) {
-    assert_eq!(rt; found.len(), want.len());
-    for (found, (p, q, count)) in found.iter().zip(want) {
-        assert_eq!(rt; (found.p, found.q), (place(rt, *p), place(rt, *q)));
-        assert_eq!(rt; found.count, *count, "{p:?} {q:?}");
-    }
+fn compare(
+    rt: &impl Abort,
+    alloc: Global,
+    found: &[Piece],
+    want: &[Joined],
+) -> Result<(), AllocError> {
+    let want = pieces(rt, alloc, want)?;
+    assert_eq!(rt; found, want.as_slice());
+    Ok(())
+}
+
+const PIECES: [Joined; 7] = [
+    ((0, 0), (0, 10), 1),
+    ((0, 0), (5, 0), 2),
+    ((0, 10), (10, 10), 1),
+    ((5, 0), (5, 5), 1),
+    ((5, 0), (10, 0), 2),
+    ((10, 0), (10, 5), 1),
+    ((10, 5), (10, 10), 1),
+];
+
+const PIECES_OF_THE_SECOND: [Joined; 2] = [((0, 0), (5, 0), 2), ((5, 0), (5, 5), 1)];
+
+fn check_pieces(
+    rt: &impl Abort,
+    alloc: Global,
+    lines: &Lines,
+    points: &[Place],
+) -> Result<(), AllocError>
+    requires { IsStrictlySortedBy place_cmp points.now }
+{
+    let found = lines.pieces(points)?;
+    compare(rt, alloc, found.as_slice(), &PIECES)
 }
 
 #[test]
 fn shared_pieces_are_counted_once_a_line(rt: HostRuntime) -> Result<(), Fail> {
     let lines = three_lines(&rt, rt.alloc())?;
     let points = points(&rt, rt.alloc(), &POINTS)?;
-    let want = [
-        ((0, 0), (0, 10), 1),
-        ((0, 0), (5, 0), 2),
-        ((0, 10), (10, 10), 1),
-        ((5, 0), (5, 5), 1),
-        ((5, 0), (10, 0), 2),
-        ((10, 0), (10, 5), 1),
-        ((10, 5), (10, 10), 1),
-    ];
-    compare(&rt, lines.pieces(points.as_slice())?.as_slice(), &want);
-    assert!(rt; is_live(&lines, LineId(2)));
-    let of_one = lines.pieces_of(LineId(2), points.as_slice())?;
-    let want = [((0, 0), (5, 0), 2), ((5, 0), (5, 5), 1)];
-    compare(&rt, of_one.as_slice(), &want);
-    Ok(())
+    Ok(check_pieces(&rt, rt.alloc(), &lines, points.as_slice())?)
+}
+
+fn pieces_of(
+    rt: &impl Abort,
+    lines: &Lines,
+    number: u32,
+    points: &[Place],
+) -> Result<Vec<Piece>, AllocError>
+    requires { IsStrictlySortedBy place_cmp points.now }
+{
+    assert!(rt; is_live(lines, LineId(number)));
+    lines.pieces_of(LineId(number), points)
+}
+
+fn check_pieces_of(
+    rt: &impl Abort,
+    alloc: Global,
+    lines: &Lines,
+    points: &[Place],
+) -> Result<(), AllocError>
+    requires { IsStrictlySortedBy place_cmp points.now }
+{
+    let found = pieces_of(rt, lines, 2, points)?;
+    compare(rt, alloc, found.as_slice(), &PIECES_OF_THE_SECOND)
+}
+
+#[test]
+fn pieces_of_a_line_have_the_counts_of_all(rt: HostRuntime) -> Result<(), Fail> {
+    let lines = three_lines(&rt, rt.alloc())?;
+    let points = points(&rt, rt.alloc(), &POINTS)?;
+    Ok(check_pieces_of(&rt, rt.alloc(), &lines, points.as_slice())?)
 }
 
 fn counts(lines: &Lines) -> (u32, u64, u32) {
     (lines.len(), lines.places(), lines.next().0)
 }
 
+// The number of the last line, or 0.
+fn last_number(lines: &Lines) -> u32 {
+    match lines.iter().next_back() {
+        Some((id, _)) => id.0,
+        None => 0,
+    }
+}
+
+// Takes a line, and gives how many places it had, or 0.
+fn take(lines: &mut Lines, number: u32) -> Result<usize, AllocError> {
+    match lines.take(LineId(number))? {
+        Some((_, places)) => Ok(places.len()),
+        None => Ok(0),
+    }
+}
+
+fn take_third(rt: &impl Abort, lines: &mut Lines) -> Result<(), AllocError> {
+    assert_eq!(rt; take(lines, 3)?, 3);
+    assert_eq!(rt; take(lines, 3)?, 0, "again");
+    assert!(rt; !is_live(lines, LineId(3)));
+    assert_eq!(rt; counts(lines), (2, 7, 4));
+    Ok(())
+}
+
 #[test]
 fn numbers_are_never_given_again(rt: HostRuntime) -> Result<(), Fail> {
     let mut lines = three_lines(&rt, rt.alloc())?;
     let before = lines.share()?;
-    let last = LineId(3);
-    assert_eq!(rt; lines.take(last)?.map(|line| line.1.len()), Some(3));
-    assert!(rt; lines.take(last)?.is_none() && !is_live(&lines, last));
-    assert_eq!(rt; counts(&lines), (2, 7, 4));
-    let ring = Places::from_vec(vector(&rt, rt.alloc(), &RING)?);
+    take_third(&rt, &mut lines)?;
+    let ring = Places::from_vec(places(&rt, rt.alloc(), &RING)?);
     assert_eq!(rt; add(&rt, &mut lines, LineKind::Void, ring), 4);
-    assert_eq!(rt; lines.iter().next_back().map(|entry| entry.0.0), Some(4));
+    assert_eq!(rt; last_number(&lines), 4);
     assert_eq!(rt; counts(&before), (3, 10, 4), "shared");
-    assert!(rt; is_live(&before, last), "shared");
+    assert!(rt; is_live(&before, LineId(3)), "shared");
     Ok(())
 }
 
@@ -164,29 +223,38 @@ fn are_on(points: &[Place], lines: &Lines) -> bool
     lines.iter().all(|(_, line)| is_on(points, line))
 }
 
-// The least line that has the place, and the least one that crosses the segment from it.
+fn number_of(found: Option<LineId>) -> u32 {
+    match found {
+        Some(id) => id.0,
+        None => 0,
+    }
+}
+
+// The least line that has the place, and the least one that crosses the segment from it, or 0.
 fn found_at(
     rt: &impl Abort,
     lines: &Lines,
     points: &[Place],
     p: At,
     q: At,
-) -> Result<(Option<u32>, Option<u32>), AllocError> {
+) -> Result<(u32, u32), AllocError> {
     assert!(rt; are_on(points, lines));
     let (p, q) = (place(rt, p), place(rt, q));
     let crossing = lines.crossing(p, q, points)?;
-    Ok((lines.holding(p).map(|id| id.0), crossing.map(|id| id.0)))
+    Ok((number_of(lines.holding(p)), number_of(crossing)))
 }
 
+const SEGMENTS: [(At, At, u32, u32, &str); 6] = [
+    ((2, -3), (2, 3), 0, 1, "over a side"),
+    ((5, -3), (5, 3), 0, 0, "over a side at a point"),
+    ((-3, 4), (3, 4), 0, 1, "over the closing link"),
+    ((5, 0), (12, 3), 2, 1, "from a breakline"),
+    ((10, 5), (4, 2), 0, 2, "over a breakline"),
+    ((2, 0), (12, 0), 0, 0, "along a side"),
+];
+
 fn segments_cross(rt: &impl Abort, lines: &Lines, points: &[Place]) -> Result<(), AllocError> {
-    for (p, q, holding, crossing, what) in [
-        ((2, -3), (2, 3), None, Some(1), "over a side"),
-        ((5, -3), (5, 3), None, None, "over a side at a point"),
-        ((-3, 4), (3, 4), None, Some(1), "over the closing link"),
-        ((5, 0), (12, 3), Some(2), Some(1), "from a breakline"),
-        ((10, 5), (4, 2), None, Some(2), "over a breakline"),
-        ((2, 0), (12, 0), None, None, "along a side"),
-    ] {
+    for (p, q, holding, crossing, what) in SEGMENTS {
         let found = found_at(rt, lines, points, p, q)?;
         assert_eq!(rt; found, (holding, crossing), "{what}");
     }
@@ -200,30 +268,41 @@ fn a_segment_crosses_between_points(rt: HostRuntime) -> Result<(), Fail> {
     Ok(segments_cross(&rt, &lines, points.as_slice())?)
 }
 
-// The least line that the line crosses, and the least pair of its links that cross.
+// The least line that the line crosses, or 0, and the least pair of its links that cross.
 fn crossings(
     rt: &impl Abort,
+    alloc: Global,
     lines: &Lines,
     points: &[Place],
     kind: LineKind,
     ats: &[At],
-) -> Result<(Option<u32>, Option<(u32, u32)>), AllocError> {
-    let line = Line::new(kind, Places::from_vec(vector(rt, lines.alloc, ats)?));
+) -> Result<(u32, Option<(u32, u32)>), AllocError> {
+    let line = Line::new(kind, Places::from_vec(places(rt, alloc, ats)?));
     assert!(rt; line.places().len() < 4_294_967_296);
-    assert!(rt; is_on(points, &line) && are_on(points, lines));
+    assert!(rt; is_on(points, &line));
+    assert!(rt; are_on(points, lines));
     let crossed = lines.crossed(&line, points);
-    Ok((crossed.map(|id| id.0), self_cross(&line, points)))
+    Ok((number_of(crossed), self_cross(&line, points)))
 }
 
-fn lines_cross(rt: &impl Abort, lines: &Lines, points: &[Place]) -> Result<(), AllocError> {
-    let eight = [(0, 0), (10, 0), (0, 10), (10, 10)];
-    let fork = [(0, 0), (10, 5), (10, 0), (0, 10)];
+const EIGHT: [At; 4] = [(0, 0), (10, 0), (0, 10), (10, 10)];
+
+const BOW: [At; 4] = [(0, 0), (10, 0), (0, 10), (10, 5)];
+
+const FORK: [At; 4] = [(0, 0), (10, 5), (10, 0), (0, 10)];
+
+fn lines_cross(
+    rt: &impl Abort,
+    alloc: Global,
+    lines: &Lines,
+    points: &[Place],
+) -> Result<(), AllocError> {
     for (kind, ats, crossed, self_crossed) in [
-        (LineKind::Outer, eight, None, None),
-        (LineKind::Breakline, fork, Some(2), Some((1, 3))),
-        (LineKind::Breakline, RING, None, None),
+        (LineKind::Outer, EIGHT, 0, None),
+        (LineKind::Breakline, FORK, 2, Some((1, 3))),
+        (LineKind::Breakline, RING, 0, None),
     ] {
-        let found = crossings(rt, lines, points, kind, &ats)?;
+        let found = crossings(rt, alloc, lines, points, kind, &ats)?;
         assert_eq!(rt; found, (crossed, self_crossed), "{ats:?}");
     }
     Ok(())
@@ -233,23 +312,40 @@ fn lines_cross(rt: &impl Abort, lines: &Lines, points: &[Place]) -> Result<(), A
 fn a_line_crosses_lines_between_points(rt: HostRuntime) -> Result<(), Fail> {
     let lines = three_lines(&rt, rt.alloc())?;
     let points = points(&rt, rt.alloc(), &POINTS)?;
-    lines_cross(&rt, &lines, points.as_slice())?;
+    Ok(lines_cross(&rt, rt.alloc(), &lines, points.as_slice())?)
+}
+
+#[test]
+fn a_ring_crosses_itself_by_its_closing_link(rt: HostRuntime) -> Result<(), Fail> {
     let none = Lines::empty(rt.alloc());
-    let eight = [(0, 0), (10, 0), (0, 10), (10, 5)];
-    let found = crossings(&rt, &none, points.as_slice(), LineKind::Outer, &eight)?;
-    assert_eq!(rt; found, (None, Some((2, 4))), "by the closing link");
+    let points = points(&rt, rt.alloc(), &POINTS)?;
+    let found = crossings(
+        &rt,
+        rt.alloc(),
+        &none,
+        points.as_slice(),
+        LineKind::Outer,
+        &BOW,
+    )?;
+    assert_eq!(rt; found, (0, Some((2, 4))));
     Ok(())
+}
+
+fn joint(lines: &Lines, place: Place) -> (u32, u32) {
+    match lines.joint(place) {
+        Some((first, second)) => (first.0, second.0),
+        None => (0, 0),
+    }
 }
 
 fn joints(rt: &impl Abort, lines: &Lines) {
     for (at, want, what) in [
-        ((5, 5), Some((2, 3)), "two lines"),
-        ((25, 5), Some((4, 4)), "one line"),
-        ((3, 3), None, "a point of one link"),
-        ((0, 0), None, "the end of two lines"),
+        ((5, 5), (2, 3), "two lines"),
+        ((25, 5), (4, 4), "one line"),
+        ((3, 3), (0, 0), "a point of one link"),
+        ((0, 0), (0, 0), "the end of two lines"),
     ] {
-        let found = lines.joint(place(rt, at)).map(|pair| (pair.0.0, pair.1.0));
-        assert_eq!(rt; found, want, "{what}");
+        assert_eq!(rt; joint(lines, place(rt, at)), want, "{what}");
     }
 }
 
@@ -286,11 +382,9 @@ fn a_line_of_a_thousand_places_is_added_and_taken(rt: HostRuntime) -> Result<(),
     let points = zigzag(&rt, rt.alloc())?;
     let mut lines = Lines::empty(rt.alloc());
     let places = Places::from_slice(rt.alloc(), points.as_slice())?;
-    assert!(rt; add(&rt, &mut lines, LineKind::Void, places) == 1 && is_live(&lines, LineId(1)));
-    assert_eq!(rt; lines.pieces_of(LineId(1), points.as_slice())?.len(), 1_000);
-    assert_eq!(rt;
-        lines.take(LineId(1))?.map(|line| line.1.len()),
-        Some(1_000)
-    );
+    assert_eq!(rt; add(&rt, &mut lines, LineKind::Void, places), 1);
+    let of_it = pieces_of(&rt, &lines, 1, points.as_slice())?;
+    assert_eq!(rt; of_it.len(), 1_000);
+    assert_eq!(rt; take(&mut lines, 1)?, 1_000);
     Ok(())
 }

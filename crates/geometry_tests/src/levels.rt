@@ -4,27 +4,19 @@ ghost use Rattle.std.specs.Prelude.{◌≡◌, IsTrue, false};
 ghost use Rattle.ground_model.specs.Place.{is_same};
 ghost use Rattle.ground_model.specs.Side.{is_left};
 
-use crate::{SlopeList, level};
+use crate::fixtures::{At, L, place};
 use ground_model::{Facet, Level, Listed, Place, Relief, Slope};
+use measures::{SlopeList, level};
 use predicates::orientation;
 use std::alloc::{AllocError, Global};
 use std::process::Abort;
 use std::test::Fail;
 
-type At = (i32, i32);
-
 /// A corner and its level.
 type Peg = (At, i32);
 
-/// The farthest coordinate.
-const L: i32 = 536_870_912;
-
 /// The highest level.
 const Z: i32 = 67_108_864;
-
-fn place(rt: &impl Abort, at: At) -> Place {
-    Place::new(at.0, at.1).expect(rt, "a place")
-}
 
 fn level_of(rt: &impl Abort, z: i32) -> Level {
     Level::new(z).expect(rt, "a level")
@@ -78,6 +70,13 @@ fn list_of(alloc: Global, slope: Slope) -> Result<SlopeList, AllocError>
     Ok(SlopeList::new(Listed::from_vec(slopes)))
 }
 
+fn level_at(relief: &SlopeList, at: Place) -> Option<i32> {
+    match level(relief, at) {
+        Some(level) => Some(level.get()),
+        None => None,
+    }
+}
+
 // The levels at these places of a relief of one facet.
 fn compare(
     rt: &impl Abort,
@@ -87,8 +86,7 @@ fn compare(
 ) -> Result<(), Fail> {
     let relief = sole(rt, alloc, pegs)?;
     for (name, at, want) in cases {
-        let found = level(&relief, place(rt, *at)).map(|z| z.get());
-        assert_eq!(rt; found, *want, "{name}");
+        assert_eq!(rt; level_at(&relief, place(rt, *at)), *want, "{name}");
     }
     Ok(())
 }

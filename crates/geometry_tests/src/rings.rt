@@ -1,31 +1,12 @@
 //! Rings and centres worked out by hand. Places are written easting first.
 
-use crate::kept;
-use ground_model::{Facet, LineKind, Place, Places};
+use crate::fixtures::{At, L, facet, places};
+use ground_model::{Facet, LineKind, Places};
 use line_table::Lines;
+use rings::kept;
 use std::alloc::{AllocError, Global};
 use std::process::Abort;
 use std::test::Fail;
-
-type At = (i32, i32);
-
-// The farthest coordinate.
-const L: i32 = 536_870_912;
-
-fn place(rt: &impl Abort, at: At) -> Place {
-    Place::new(at.0, at.1).expect(rt, "a place")
-}
-
-fn facet(rt: &impl Abort, a: At, b: At, c: At) -> Facet {
-    Facet {
-        a: place(rt, a),
-        b: place(rt, b),
-        c: place(rt, c),
-        ab: 0,
-        bc: 0,
-        ca: 0,
-    }
-}
 
 // The line that a letter of a row stands for. A ring does not repeat its first place.
 fn line(letter: u8) -> (LineKind, &'static [At]) {
@@ -66,14 +47,6 @@ fn line(letter: u8) -> (LineKind, &'static [At]) {
     }
 }
 
-fn places(rt: &impl Abort, alloc: Global, ats: &[At]) -> Result<Places, AllocError> {
-    let mut all = Vec::new(alloc);
-    for at in ats {
-        all.push(place(rt, *at))?;
-    }
-    Ok(Places::from_vec(all))
-}
-
 fn add(rt: &impl Abort, lines: &mut Lines, kind: LineKind, places: Places) {
     assert!(rt; lines.len() < 65_535);
     assert!(rt; lines.next().0 < u32::MAX);
@@ -86,7 +59,12 @@ fn table(rt: &impl Abort, alloc: Global, letters: &str) -> Result<Lines, AllocEr
     let mut lines = Lines::empty(alloc);
     for letter in letters.as_bytes() {
         let (kind, ats) = line(*letter);
-        add(rt, &mut lines, kind, places(rt, alloc, ats)?);
+        add(
+            rt,
+            &mut lines,
+            kind,
+            Places::from_vec(places(rt, alloc, ats)?),
+        );
     }
     Ok(lines)
 }
@@ -95,7 +73,8 @@ fn table(rt: &impl Abort, alloc: Global, letters: &str) -> Result<Lines, AllocEr
 fn facet_round(rt: &impl Abort, at: At) -> Facet {
     let (e, n) = at;
     assert!(rt; -1000 < e && e < 1000 && -1000 < n && n < 1000);
-    facet(rt, (e - 1, n - 1), (e + 2, n - 1), (e - 1, n + 2))
+    let corners = [(e - 1, n - 1), (e + 2, n - 1), (e - 1, n + 2)];
+    facet(rt, &(corners, [0; 3]))
 }
 
 fn check(
@@ -111,52 +90,69 @@ fn check(
     Ok(())
 }
 
+// Each row: the letters of the lines, the easting and northing of a centre, whether its facet is
+// kept, and what the row shows.
+const CENTRES: &str = "\
+|50|50|kept|no lines
+OVI|10|50|kept|in the outer ring
+OVI|30|50|out|in the void
+OVI|50|50|kept|in the island in the void
+OVI|150|50|out|east of the outer ring
+OVI|-10|50|out|west of the outer ring
+OVI|50|150|out|north of the outer ring
+OVI|50|-10|out|south of the outer ring
+V|50|50|out|a void alone
+V|90|50|kept|beside a void alone
+I|50|50|kept|an island alone
+I|90|50|kept|beside an island alone
+O|0|50|kept|on the west side
+O|100|50|out|on the east side
+O|50|0|kept|on the south side
+O|50|100|out|on the north side
+OE|50|50|kept|in the first outer ring
+OE|250|50|kept|in the second outer ring
+OE|150|50|out|between two outer rings
+OIV|50|50|out|an island numbered before its void
+OIV|30|50|out|in that void
+OIV|10|50|kept|beside that void
+vi|50|50|kept|an island round a void
+VIv|50|50|out|a void again in the island
+C|50|50|kept|in a clockwise ring
+C|150|50|out|beside a clockwise ring
+H|50|20|kept|in the south of an hourglass
+H|50|80|kept|in the north of an hourglass
+H|20|50|out|west of its waist
+H|80|50|out|east of its waist
+S|50|30|kept|level with a collinear place
+S|-10|30|out|west of four collinear places
+D|50|50|kept|level with two corners
+D|-10|50|out|west of two corners
+D|110|50|out|east of two corners
+D|10|100|out|level with the north corner
+D|10|0|out|level with the south corner
+B|50|50|kept|in a breakline that comes back
+B|150|50|kept|beside that breakline
+VB|50|50|out|a breakline in a void";
+
+fn columns(row: &str) -> [&str; 5] {
+    let mut columns = row.split('|');
+    let letters = columns.next().unwrap_or("");
+    let e = columns.next().unwrap_or("");
+    let n = columns.next().unwrap_or("");
+    let kept = columns.next().unwrap_or("");
+    [letters, e, n, kept, columns.next().unwrap_or("")]
+}
+
+fn check_row(rt: &impl Abort, alloc: Global, row: &str) -> Result<(), Fail> {
+    let [letters, e, n, want, name] = columns(row);
+    let facet = facet_round(rt, (e.parse()?, n.parse()?));
+    Ok(check(rt, alloc, name, letters, facet, want == "kept")?)
+}
+
 #[test]
 fn the_last_void_or_island_round_the_centre_decides(rt: HostRuntime) -> Result<(), Fail> {
-    let cases = [
-        ("no lines", "", (50, 50), true),
-        ("in the outer ring", "OVI", (10, 50), true),
-        ("in the void", "OVI", (30, 50), false),
-        ("in the island in the void", "OVI", (50, 50), true),
-        ("east of the outer ring", "OVI", (150, 50), false),
-        ("west of the outer ring", "OVI", (-10, 50), false),
-        ("north of the outer ring", "OVI", (50, 150), false),
-        ("south of the outer ring", "OVI", (50, -10), false),
-        ("a void alone", "V", (50, 50), false),
-        ("beside a void alone", "V", (90, 50), true),
-        ("an island alone", "I", (50, 50), true),
-        ("beside an island alone", "I", (90, 50), true),
-        ("on the west side", "O", (0, 50), true),
-        ("on the east side", "O", (100, 50), false),
-        ("on the south side", "O", (50, 0), true),
-        ("on the north side", "O", (50, 100), false),
-        ("in the first outer ring", "OE", (50, 50), true),
-        ("in the second outer ring", "OE", (250, 50), true),
-        ("between two outer rings", "OE", (150, 50), false),
-        ("an island numbered before its void", "OIV", (50, 50), false),
-        ("in that void", "OIV", (30, 50), false),
-        ("beside that void", "OIV", (10, 50), true),
-        ("an island round a void", "vi", (50, 50), true),
-        ("a void again in the island", "VIv", (50, 50), false),
-        ("in a clockwise ring", "C", (50, 50), true),
-        ("beside a clockwise ring", "C", (150, 50), false),
-        ("in the south of an hourglass", "H", (50, 20), true),
-        ("in the north of an hourglass", "H", (50, 80), true),
-        ("west of its waist", "H", (20, 50), false),
-        ("east of its waist", "H", (80, 50), false),
-        ("level with a collinear place", "S", (50, 30), true),
-        ("west of four collinear places", "S", (-10, 30), false),
-        ("level with two corners", "D", (50, 50), true),
-        ("west of two corners", "D", (-10, 50), false),
-        ("east of two corners", "D", (110, 50), false),
-        ("level with the north corner", "D", (10, 100), false),
-        ("level with the south corner", "D", (10, 0), false),
-        ("in a breakline that comes back", "B", (50, 50), true),
-        ("beside that breakline", "B", (150, 50), true),
-        ("a breakline in a void", "VB", (50, 50), false),
-    ];
-    for (name, letters, at, want) in cases {
-        check(&rt, rt.alloc(), name, letters, facet_round(&rt, at), want)?;
+    for row in CENTRES.split('\n') {
+        check_row(&rt, rt.alloc(), row)?;
     }
     Ok(())
 }
@@ -171,8 +167,9 @@ fn centres_are_exact_to_the_limit(rt: HostRuntime) -> Result<(), Fail> {
         // its side of the longest link is more than 64 bits hold
         ("far", "T", [(L - 1, -L), (L, -L), (L, 1 - L)], false),
     ];
-    for (name, letters, [a, b, c], want) in cases {
-        check(&rt, rt.alloc(), name, letters, facet(&rt, a, b, c), want)?;
+    for (name, letters, corners, want) in cases {
+        let facet = facet(&rt, &(corners, [0; 3]));
+        check(&rt, rt.alloc(), name, letters, facet, want)?;
     }
     Ok(())
 }

@@ -2,7 +2,6 @@
 
 ghost use Rattle.std.specs.Prelude.{◌≡◌, ◌<◌};
 
-use crate::{TriPages, TriSlot};
 use ground_model::Corner;
 use page_vec::Steps;
 use std::alloc::Global;
@@ -10,6 +9,7 @@ use std::marker::Brand;
 use std::process::Abort;
 use std::sync::ledger::{Blank, Ledger};
 use std::test::Fail;
+use tri_pages::{TriPages, TriSlot};
 
 const LIMIT: u32 = 1_073_741_824;
 
@@ -30,7 +30,7 @@ fn slot_at(turn: u32) -> u32 {
     turn.wrapping_mul(1009) % COUNT
 }
 
-#[tactic(auto, using(crate::proofs::Taken::length_taken))]
+#[tactic(auto, using(tri_pages::proofs::Taken::length_taken))]
 fn take<R: Abort, L: Ledger>(
     rt: &R,
     pages: &mut TriPages,
@@ -65,6 +65,50 @@ fn compare<R: Abort, L: Ledger>(rt: &R, pages: &TriPages, stamp: u32, steps: &mu
     assert_eq!(rt; pages.len(), COUNT);
 }
 
+fn take_in_order<R: Abort, L: Ledger>(
+    rt: &R,
+    pages: &mut TriPages,
+    steps: &mut Steps<L>,
+) -> Result<(), Fail> {
+    for slot in 0..COUNT {
+        take(rt, pages, slot, 0, steps)?;
+    }
+    Ok(())
+}
+
+fn give_all_back<R: Abort, L: Ledger>(
+    rt: &R,
+    pages: &mut TriPages,
+    steps: &mut Steps<L>,
+) -> Result<(), Fail> {
+    for turn in 0..COUNT {
+        give_back(rt, pages, slot_at(turn), steps)?;
+    }
+    assert_eq!(rt; pages.read(0, steps).copied(), None, "given back");
+    Ok(())
+}
+
+// Takes the slots again, the one that was given back last first.
+fn take_again<R: Abort, L: Ledger>(
+    rt: &R,
+    pages: &mut TriPages,
+    steps: &mut Steps<L>,
+) -> Result<(), Fail> {
+    for turn in 0..COUNT {
+        take(rt, pages, slot_at(COUNT - 1 - turn), 1, steps)?;
+    }
+    Ok(())
+}
+
+fn change<R: Abort, L: Ledger>(
+    rt: &R,
+    pages: &mut TriPages,
+    steps: &mut Steps<L>,
+) -> Result<(), Fail> {
+    give_all_back(rt, pages, steps)?;
+    take_again(rt, pages, steps)
+}
+
 fn go_round<R: Abort, L: Ledger>(rt: &R, alloc: Global, blank: Blank) -> Result<(), Fail>
     requires name { blank.name ≡ L.name }
     requires parts { blank.parts ≡ L.parts }
@@ -72,17 +116,9 @@ fn go_round<R: Abort, L: Ledger>(rt: &R, alloc: Global, blank: Blank) -> Result<
 {
     let mut steps = Steps::<L>::new(blank);
     let mut pages = TriPages::empty(alloc);
-    for slot in 0..COUNT {
-        take(rt, &mut pages, slot, 0, &mut steps)?;
-    }
+    take_in_order(rt, &mut pages, &mut steps)?;
     let before = pages.share()?;
-    for turn in 0..COUNT {
-        give_back(rt, &mut pages, slot_at(turn), &mut steps)?;
-    }
-    assert_eq!(rt; pages.read(0, &mut steps).copied(), None, "given back");
-    for turn in 0..COUNT {
-        take(rt, &mut pages, slot_at(COUNT - 1 - turn), 1, &mut steps)?;
-    }
+    change(rt, &mut pages, &mut steps)?;
     compare(rt, &pages, 1, &mut steps);
     compare(rt, &before, 0, &mut steps);
     Ok(())

@@ -1,6 +1,7 @@
 //! Each public call once on its happy path, and the limits.
 
-use crate::{Level, Limits, LineKind, Listed, Place, Places};
+use crate::fixtures::{At, place};
+use ground_model::{Level, Limits, LineKind, Place, Places};
 use std::test::Fail;
 
 fn is_place(e: i32, n: i32) -> bool {
@@ -21,29 +22,35 @@ fn places_and_levels_end_at_their_limits(rt: HostRuntime) {
     assert!(rt; !is_level(67_108_865) && !is_level(-67_108_865));
 }
 
+fn get_back(z: i32) -> Option<i32> {
+    match Level::new(z) {
+        Some(level) => Some(level.get()),
+        None => None,
+    }
+}
+
+fn is_before(p: At, q: At) -> bool {
+    Place::new(p.0, p.1) < Place::new(q.0, q.1)
+}
+
 #[test]
-fn places_are_ordered_by_easting_then_northing(rt: HostRuntime) -> Result<(), Fail> {
-    let west = Place::new(1, 9).ok_or("a place")?;
-    let east = Place::new(2, 3).ok_or("a place")?;
-    let north = Place::new(2, 4).ok_or("a place")?;
-    assert!(rt; west < east);
-    assert!(rt; east < north);
+fn places_are_ordered_by_easting_then_northing(rt: HostRuntime) {
+    assert!(rt; is_before((1, 9), (2, 3)));
+    assert!(rt; is_before((2, 3), (2, 4)));
+    let north = place(&rt, (2, 4));
     assert_eq!(rt; (north.e(), north.n()), (2, 4));
-    assert_eq!(rt; Level::new(-7).ok_or("a level")?.get(), -7);
-    Ok(())
+    assert_eq!(rt; get_back(-7), Some(-7));
 }
 
 #[test]
 fn a_list_is_made_and_read(rt: HostRuntime) -> Result<(), Fail> {
-    let first = Place::new(0, 1).ok_or("a place")?;
-    let last = Place::new(2, 3).ok_or("a place")?;
-    let places: Places = Places::from_slice(rt.alloc(), &[first, last])?;
-    assert_eq!(rt; places.len(), 2);
-    assert!(rt; !places.is_empty());
-    assert_eq!(rt; places.get(1).copied(), Some(last));
-    assert!(rt; places.get(2).is_none());
-    assert_eq!(rt; places.as_slice(), [first, last].as_slice());
-    assert_eq!(rt; Listed::from_vec(places.into_vec()).len(), 2);
+    let pair = [place(&rt, (0, 1)), place(&rt, (2, 3))];
+    let places = Places::from_slice(rt.alloc(), &pair)?;
+    assert_eq!(rt; (places.len(), places.is_empty()), (2, false));
+    assert_eq!(rt; places.get(1).copied(), Some(pair[1]));
+    assert_eq!(rt; places.get(2).copied(), None);
+    assert_eq!(rt; places.as_slice(), pair.as_slice());
+    assert_eq!(rt; Places::from_vec(places.into_vec()).len(), 2);
     Ok(())
 }
 
