@@ -1,12 +1,10 @@
-use Rattle.std.proofs.Common.{sym, ap, ◌∙◌, List, subst}
-use Rattle.std.specs.List.{list_any}
+use Rattle.std.proofs.Common.{sym, List, subst}
 use Rattle.std.specs.List.Sorted.{IsStrictlySortedBy}
 use Rattle.std.proofs.lemmas.List.Filters.{dedup_is}
 use Rattle.std.proofs.lemmas.List.Kept.{IsStrictlySortedBy-dedup}
-use Rattle.std.proofs.lemmas.List.Sorted.{list_any-IsPermutation}
 use Rattle.ground_model.specs.Place.{Coords, place_cmp, is_same}
 use Rattle.ground_model.proofs.Contents.{places_total}
-use Rattle.line_table.proofs.Rows.{dedup-any, ties}
+use Rattle.line_table.proofs.Rows.{ties}
 use Rattle.geometry_tests.proofs.lines.order.Goals as goal
 
 pub returns : goal.returns
