@@ -19,8 +19,6 @@ mod refusal;
 mod relief;
 mod slope;
 mod station;
-#[cfg(test)]
-mod tests;
 mod volume;
 
 pub use chain::{Chain, Chains};

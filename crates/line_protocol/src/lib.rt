@@ -14,8 +14,6 @@ mod read;
 mod reason_text;
 mod reply;
 mod request;
-#[cfg(test)]
-mod tests;
 mod text;
 mod volume_text;
 mod words;

@@ -15,6 +15,3 @@ pub use line::Line;
 pub use lines::Lines;
 pub use links::Links;
 pub use live::LiveLines;
-
-#[cfg(test)]
-mod tests;

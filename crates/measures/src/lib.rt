@@ -8,6 +8,3 @@ mod slope_list;
 
 pub use levels::level;
 pub use slope_list::SlopeList;
-
-#[cfg(test)]
-mod tests;

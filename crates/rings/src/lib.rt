@@ -7,6 +7,3 @@ mod ray;
 mod tripled;
 
 pub use keep::kept;
-
-#[cfg(test)]
-mod tests;

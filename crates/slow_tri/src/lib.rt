@@ -6,8 +6,3 @@ mod facet_rule;
 mod triples;
 
 pub use triples::{FacetList, facets};
-
-#[cfg(test)]
-mod sheet_tests;
-#[cfg(test)]
-mod tests;

@@ -5,7 +5,7 @@ use crate::sessions::{converse, ground, number_in, replies_to};
 use ground_io::{Call, Link, MemLink, MemSink, MemSource, Pair, Recorded, StdSource};
 use ground_model::Limits;
 use session::Store;
-use std::alloc::Global;
+use std::alloc::{AllocError, Global};
 use std::io::{self, Read};
 use std::process::Abort;
 use std::slice;
@@ -59,10 +59,14 @@ fn failing(fault: &str, side: &str) -> Result<u64, Fail> {
     Ok(u64::from(number_in(fault, side, 1_000)?))
 }
 
+fn source(alloc: Global, input: &str, fail: u64) -> Result<MemSource, AllocError> {
+    MemSource::new(alloc, input.as_bytes(), &[fail])
+}
+
 fn source_of(alloc: Global, fault: &str, input: &str) -> Result<MemSource, Fail> {
-    let fails = [failing(fault, "read")?];
+    let fail = failing(fault, "read")?;
     let input = lines_of(alloc, input)?;
-    Ok(MemSource::new(alloc, input.as_bytes(), &fails)?)
+    Ok(source(alloc, input.as_str(), fail)?)
 }
 
 fn sink_of(alloc: Global, fault: &str) -> Result<MemSink, Fail> {

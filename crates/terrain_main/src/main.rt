@@ -10,6 +10,8 @@ mod refusal_texts;
 #[cfg(test)]
 mod reply_tests;
 #[cfg(test)]
+mod request_tests;
+#[cfg(test)]
 mod session_texts;
 #[cfg(test)]
 mod sessions;

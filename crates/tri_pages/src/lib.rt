@@ -4,8 +4,6 @@
 
 mod entry;
 mod pages;
-#[cfg(test)]
-mod tests;
 mod tri_slot;
 
 pub use pages::TriPages;

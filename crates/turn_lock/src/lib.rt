@@ -8,8 +8,6 @@ mod lock;
 mod open;
 mod seat;
 mod steps;
-#[cfg(test)]
-mod tests;
 mod turn;
 mod view;
 

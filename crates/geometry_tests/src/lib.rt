@@ -1,0 +1,20 @@
+//! Tests of the crates between the ground model and the rings, over the crates as they are built.
+//! In a crate of their own they prove none of them again.
+#![tactic(auto)]
+
+#[cfg(test)]
+mod fixtures;
+#[cfg(test)]
+mod levels;
+#[cfg(test)]
+mod lines;
+#[cfg(test)]
+mod model;
+#[cfg(test)]
+mod rings;
+#[cfg(test)]
+mod sheets;
+#[cfg(test)]
+mod slots;
+#[cfg(test)]
+mod triangles;

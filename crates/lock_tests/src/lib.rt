@@ -1,0 +1,6 @@
+//! Tests of `turn_lock`, over the crate as it is built: in a crate of their own they do not prove it
+//! again.
+#![tactic(auto)]
+
+#[cfg(test)]
+mod seats;
