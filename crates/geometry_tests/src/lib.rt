@@ -5,13 +5,13 @@
 #[cfg(test)]
 mod fixtures;
 #[cfg(test)]
+mod kept_facets;
+#[cfg(test)]
 mod levels;
 #[cfg(test)]
 mod lines;
 #[cfg(test)]
 mod model;
-#[cfg(test)]
-mod rings;
 #[cfg(test)]
 mod sheets;
 #[cfg(test)]
