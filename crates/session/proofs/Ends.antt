@@ -4,6 +4,7 @@ use Rattle.std.specs.List.{All, flat_map}
 use Rattle.std.specs.Bool.{⊤}
 use Rattle.std.specs.Io.KnownBytes.{Appends, Consumes, IsAtEnd}
 use Rattle.ground_model.specs.declared.entry.Entry.{Entry}
+use Rattle.ground_model.specs.Answer.{Pending}
 use Rattle.line_protocol.specs.declared.reply.Reply.{Reply}
 use Rattle.session.specs.Lines.{ended, unfinished, whole_lines}
 use Rattle.ground_io.specs.Wires.{WireView}
@@ -59,11 +60,7 @@ start_of set author before = record { setting = set; author = author; first = be
 
 module _ (set : Setting) (author budget : ℕ) (before after : State) (read : List ℕ)
     (consumed : Consumes before.wire.left after.wire.left read) (within : length read ≤ budget) (short : All (λ (line : List ℕ). length line < line_limit) (ended read)) where
-  b : Start
-  b = start_of set author before
-
-  plain_end : (end : Ended) → IsPlain end → Talking (start_of set author before) after.entries (output_of after.wire) read read → IsEnding budget read after.wire.left end → Talk (sitting (start_of set author before)) budget before after end
-  unfolding b
+  plain_end : {pending : Option Pending} (end : Ended) → IsPlain end → Talking (start_of set author before) after.entries pending (output_of after.wire) read read → IsEnding budget read after.wire.left end → Talk (sitting (start_of set author before)) budget before after end
   plain_end end plain t ending = record {
     read = read;
     lines = whole_lines read;
@@ -73,7 +70,7 @@ module _ (set : Setting) (author budget : ℕ) (before after : State) (read : Li
     within = within;
     short = short;
     taken = plain_taken end plain (whole_lines read) t.no_quit;
-    transcript = transcript_of b after.entries (whole_lines read) t.replies t.going (quit_is_none (whole_lines read) t.no_quit);
+    transcript = transcript_of (start_of set author before) after.entries _ (whole_lines read) t.replies t.going (quit_is_none (whole_lines read) t.no_quit);
     begins = t.going.begins;
     alone = t.going.alone;
     written = plain_written (text_at set after.entries) end plain before.wire.written after.wire.written t.replies t.written;
@@ -83,30 +80,30 @@ module _ (set : Setting) (author budget : ℕ) (before after : State) (read : Li
     ending = ending;
   }
 
-  open_so_far : Talking (start_of set author before) after.entries (output_of after.wire) read read → length (unfinished read) < line_limit → IsOpen read
+  open_so_far : {pending : Option Pending} → Talking (start_of set author before) after.entries pending (output_of after.wire) read read → length (unfinished read) < line_limit → IsOpen read
   open_so_far t below = record { no_quit = t.no_quit; short = below }
 
-  pub ends_memory : Talking (start_of set author before) after.entries (output_of after.wire) read read → read ≡ [] → Talk (sitting (start_of set author before)) budget before after Memory
+  pub ends_memory : {pending : Option Pending} → Talking (start_of set author before) after.entries pending (output_of after.wire) read read → read ≡ [] → Talk (sitting (start_of set author before)) budget before after Memory
   unfolding IsPlain
   ends_memory t is = plain_end Memory tt t is
 
-  pub ends_fault : Talking (start_of set author before) after.entries (output_of after.wire) read read → length (unfinished read) < line_limit → length read < budget → Talk (sitting (start_of set author before)) budget before after ReadFault
+  pub ends_fault : {pending : Option Pending} → Talking (start_of set author before) after.entries pending (output_of after.wire) read read → length (unfinished read) < line_limit → length read < budget → Talk (sitting (start_of set author before)) budget before after ReadFault
   unfolding IsPlain
   ends_fault t short_line below = plain_end ReadFault tt t (open_so_far t short_line, below)
 
-  pub ends_end : Talking (start_of set author before) after.entries (output_of after.wire) read read → length (unfinished read) < line_limit → unfinished read ≡ [] → length read < budget → IsAtEnd after.wire.left → Talk (sitting (start_of set author before)) budget before after End
+  pub ends_end : {pending : Option Pending} → Talking (start_of set author before) after.entries pending (output_of after.wire) read read → length (unfinished read) < line_limit → unfinished read ≡ [] → length read < budget → IsAtEnd after.wire.left → Talk (sitting (start_of set author before)) budget before after End
   unfolding IsPlain
   ends_end t short_line none below at_end = plain_end End tt t (open_so_far t short_line, none, below, at_end)
 
-  pub ends_cut : Talking (start_of set author before) after.entries (output_of after.wire) read read → length (unfinished read) < line_limit → (unfinished read ≡ [] → ⊥) → length read < budget → IsAtEnd after.wire.left → Talk (sitting (start_of set author before)) budget before after Cut
+  pub ends_cut : {pending : Option Pending} → Talking (start_of set author before) after.entries pending (output_of after.wire) read read → length (unfinished read) < line_limit → (unfinished read ≡ [] → ⊥) → length read < budget → IsAtEnd after.wire.left → Talk (sitting (start_of set author before)) budget before after Cut
   unfolding IsPlain
   ends_cut t short_line some below at_end = plain_end Cut tt t (open_so_far t short_line, some, below, at_end)
 
-  pub ends_long : Talking (start_of set author before) after.entries (output_of after.wire) read read → length (unfinished read) ≡ line_limit → Talk (sitting (start_of set author before)) budget before after LongLine
+  pub ends_long : {pending : Option Pending} → Talking (start_of set author before) after.entries pending (output_of after.wire) read read → length (unfinished read) ≡ line_limit → Talk (sitting (start_of set author before)) budget before after LongLine
   unfolding IsPlain
   ends_long t long = plain_end LongLine tt t (t.no_quit, long)
 
-  pub ends_spent : Talking (start_of set author before) after.entries (output_of after.wire) read read → length (unfinished read) < line_limit → length read ≡ budget → Talk (sitting (start_of set author before)) budget before after Spent
+  pub ends_spent : {pending : Option Pending} → Talking (start_of set author before) after.entries pending (output_of after.wire) read read → length (unfinished read) < line_limit → length read ≡ budget → Talk (sitting (start_of set author before)) budget before after Spent
   unfolding IsPlain
   ends_spent t short_line all = plain_end Spent tt t (open_so_far t short_line, all)
 

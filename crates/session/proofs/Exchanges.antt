@@ -1,62 +1,31 @@
 -- A session's transcript goes on by one exchange.
-use Rattle.std.proofs.Common.{◌≡◌, ℕ, suc, zero, ◌+◌, ◌≤◌, ◌⊎◌, inl, inr, true, false, cond, ◌==◌, List, [], ◌∷◌, ◌++◌, length, take, drop, Option, None, Some, refl, sym, ap, subst, ◌∙◌, arith, append_assoc, length-append, length-drop, IfSome}
+use Rattle.std.proofs.Common.{◌≡◌, ℕ, suc, ◌+◌, ◌≤◌, inl, inr, true, false, cond, ◌==◌, List, [], ◌∷◌, ◌++◌, length, drop, Option, None, Some, refl, sym, ap, subst, ◌∙◌, arith, append_assoc, length-append, length-drop, IfSome}
 use Rattle.std.proofs.Math.Seq.{take-append_seam}
 use Rattle.std.proofs.lemmas.List.{take-append-le, drop-append-le, append-nil}
-use Rattle.std.proofs.lemmas.Option.{slice_get_within}
 use Rattle.std.specs.Prelude.{IsSomeAnd, MatchOption, option_and_then}
-use Rattle.std.specs.List.{slice_get}
 use Rattle.ground_model.specs.declared.edit.Edit.{Edit}
 use Rattle.ground_model.specs.declared.entry.Entry.{Entry}
 use Rattle.ground_model.specs.declared.limits.Limits.{Limits}
 use Rattle.ground_model.specs.declared.refusal.Refusal.{Refusal}
-use Rattle.ground_model.specs.History.{IsLegal, IsNext, content_of}
+use Rattle.ground_model.specs.History.{content_of}
 use Rattle.ground_model.specs.Refusal.{refusal}
-use Rattle.ground_model.specs.Answer.{Pending, answer, by_refusal, next_entry}
+use Rattle.ground_model.specs.declared.mark.Mark.{Mark}
+use Rattle.ground_model.specs.Answer.{Pending, answer, conflict, by_conflict, by_refusal, next_entry}
 use Rattle.ground_model.proofs.Newest.{answer-newest}
 use Rattle.line_protocol.specs.declared.reply.Reply.{Reply}
-use Rattle.line_protocol.specs.declared.reply.Reply.TheVariants as replied
 use Rattle.line_protocol.specs.declared.request.Request.{Request}
 use Rattle.line_protocol.specs.declared.request.Request.TheVariants as asks
 use Rattle.line_protocol.specs.Spoken.{Spoken}
 use Rattle.line_protocol.specs.Grammar.{spoken}
 use Rattle.line_protocol.specs.Within.{request_within, request_of}
+use Rattle.store.proofs.Journals.{get_longer, get_last, legal_more}
 use Rattle.turn_lock.specs.Setting.{Setting, setting}
-use Rattle.turn_lock.specs.declared.journal.Journal.{Journal}
 use Rattle.session.specs.Told.{Told, told_nothing, told_after, pending_after, shown_after, front_of, done_front, front_list, fronts_told, edit_made}
-use Rattle.session.specs.Table.{to_edit, IsReply}
+use Rattle.session.specs.Table.{to_edit, to_plan, IsReply}
 use Rattle.session.specs.Transcript.{Sitting, Reading, Shown, Turned, Free, reading, IsFrontBy, IsFrontFor, IsFaultReply, IsAnswerWithin, AnswersLine, IsEntry, Exchange, Exchanges, fronts_by}
-use Rattle.session.specs.Talking.{Start, sitting, ServesLine, entries_after, told_by, Going}
-
--- ---- lists
-
-pub get_longer : {X : Type 0} (xs ys : List X) (k : ℕ) (x : X) → slice_get xs k ≡ Some x → slice_get (xs ++ ys) k ≡ Some x
-get_longer [] ys k x e = cc
-get_longer (y ∷ xs) ys zero x e = e
-get_longer (y ∷ xs) ys (suc k) x e = get_longer xs ys k x e
-
-pub get_last : {X : Type 0} (xs : List X) (x : X) → slice_get (xs ++ x ∷ []) (length xs) ≡ Some x
-get_last [] x = refl
-get_last (y ∷ xs) x = get_last xs x
-
--- what stands at an index of a list with one more
-pub get_more : {X : Type 0} (xs : List X) (x y : X) (k : ℕ) → slice_get (xs ++ x ∷ []) k ≡ Some y → (slice_get xs k ≡ Some y) ⊎ ((k ≡ length xs) × (x ≡ y))
-get_more [] x y zero e = inr (refl, cc)
-get_more [] x y (suc k) e = cc
-get_more (z ∷ xs) x y zero e = inl e
-get_more (z ∷ xs) x y (suc k) e = elim (get_more xs x y k e) [ inl h ↦ inl h | inr h ↦ inr (ap suc h.0, h.1) ]
+use Rattle.session.specs.Talking.{Start, sitting, Position, ServesLine, entries_after, told_by, Going}
 
 -- ---- histories
-
-pub legal_more : (limits : Limits) (h : List Entry) (x : Entry) → IsLegal limits h → IsNext limits h x → IsLegal limits (h ++ x ∷ [])
-legal_more limits h x legal next k y e =
-    elim (get_more h x y k e) [
-      | inl was ↦
-          let within : k ≤ length h = omega (arith, slice_get_within h k y was) in
-          rw (take-append-le k h (x ∷ []) within) (legal k y was)
-      | inr is ↦
-          let front : take k (h ++ x ∷ []) ≡ h = rw is.0 (take-append_seam h (x ∷ [])) in
-          rw front (subst (IsNext limits h) is.1 next)
-    ]
 
 pub fronts_by-more : (author place : ℕ) (xs : List Entry) (x : Entry) → x.author ≡ author → fronts_by author place (xs ++ x ∷ []) ≡ fronts_by author place xs ++ suc (place + length xs) ∷ []
 fronts_by-more author place [] x own = grind (arith, own)
@@ -140,6 +109,17 @@ unfolding Tells
 tells_edit limits h e None is = (record { made = e; is = refl; lawful = is; next = refl }, refl)
 tells_edit limits h e (Some cause) is = refl
 
+tells_answer : (limits : Limits) (h : List Entry) (e : Edit) (found : Option Mark) (cause : Option Refusal) → refusal (content_of h) (length h) limits e ≡ cause
+    → Tells limits h (Some e) (done_front (to_edit (by_conflict h e found cause))) (front_of (to_edit (by_conflict h e found cause)))
+unfolding Tells
+tells_answer limits h e (Some m) cause is = refl
+tells_answer limits h e None cause is = tells_edit limits h e cause is
+
+tells_plan : (limits : Limits) (h : List Entry) (e : Edit) (cause : Option Refusal) → Tells limits h None (done_front (to_plan h e cause)) (front_of (to_plan h e cause))
+unfolding Tells
+tells_plan limits h e None = refl
+tells_plan limits h e (Some cause) = refl
+
 TellsOf : Setting → List Entry → Option Edit → Reply → Type 0
 TellsOf set h edit reply = Tells set.limits h edit (done_front reply) (front_of reply)
 
@@ -151,13 +131,14 @@ unfolding Tells TellsOf
 tells_applied set h e reply is = tells_by set h (Some e) reply _ (is ∙ ap to_edit (answer-newest set.limits h e)) (tells_edit set.limits h e _ refl)
 
 tells_request : (set : Setting) (h : List Entry) (pending : Option Pending) (r : Request) (reply : Reply) → IsReply set h pending r reply → TellsOf set h (edit_made pending (Some r)) reply
-unfolding Tells TellsOf
+unfolding Tells TellsOf answer
 tells_request set h pending (asks.Apply e) reply is = tells_applied set h e reply is
 tells_request set h pending asks.Stat reply is = rw is refl
 tells_request set h pending asks.Quit reply is = rw is tt
-tells_request set h pending asks.Sync reply is = rw is tt
-tells_request set h pending (asks.Plan e) reply is = rw is tt
-tells_request set h pending asks.Commit reply is = rw is tt
+tells_request set h pending asks.Sync reply is = rw is refl
+tells_request set h pending (asks.Plan e) reply is = tells_by set h None reply _ is (tells_plan set.limits h e (refusal (content_of h) (length h) set.limits e))
+tells_request set h None asks.Commit reply is = rw is tt
+tells_request set h (Some plan) asks.Commit reply is = tells_by set h (Some plan.edit) reply _ is (tells_answer set.limits h plan.edit (conflict h plan.base plan.edit) _ refl)
 tells_request set h pending (asks.Level p) reply is = rw is refl
 tells_request set h pending (asks.Contour z) reply is = rw is tt
 tells_request set h pending (asks.Volume z) reply is = rw is tt
@@ -178,44 +159,6 @@ unfolding Tells TellsOf
 tells_line set h pending line None reply a = rw a.2 tt
 tells_line set h pending line (Some s) reply a = tells_within set h pending (request_within set.head.origin s) reply a
 
--- no reply so far tells of a plan
-unplanned_request : (set : Setting) (h : List Entry) (r : Request) (reply : Reply) → IsReply set h None r reply → pending_after (Some r) reply None ≡ None
-unplanned_request set h (asks.Plan e) reply is = rw is refl
-unplanned_request set h asks.Commit reply is = rw is refl
-unplanned_request set h (asks.Apply e) reply is = refl
-unplanned_request set h asks.Stat reply is = refl
-unplanned_request set h asks.Quit reply is = refl
-unplanned_request set h asks.Sync reply is = refl
-unplanned_request set h (asks.Level p) reply is = refl
-unplanned_request set h (asks.Contour z) reply is = refl
-unplanned_request set h (asks.Volume z) reply is = refl
-unplanned_request set h asks.Export reply is = refl
-
-unplanned_memory : (r : Request) (reply : Reply) → reply ≡ replied.Memory → pending_after (Some r) reply None ≡ None
-unplanned_memory (asks.Plan e) reply is = rw is refl
-unplanned_memory asks.Commit reply is = rw is refl
-unplanned_memory (asks.Apply e) reply is = refl
-unplanned_memory asks.Stat reply is = refl
-unplanned_memory asks.Quit reply is = refl
-unplanned_memory asks.Sync reply is = refl
-unplanned_memory (asks.Level p) reply is = refl
-unplanned_memory (asks.Contour z) reply is = refl
-unplanned_memory (asks.Volume z) reply is = refl
-unplanned_memory asks.Export reply is = refl
-
-unplanned_within : (set : Setting) (h : List Entry) (r : Option Request) (reply : Reply) → IsAnswerWithin set h None r reply → pending_after r reply None ≡ None
-unplanned_within set h None reply is = refl
-unplanned_within set h (Some r) reply a =
-    elim a [
-      | inl is ↦ unplanned_request set h r reply is
-      | inr lacks ↦ unplanned_memory r reply lacks.1
-    ]
-
-unplanned_line : (set : Setting) (h : List Entry) (line : List ℕ) (s : Option Spoken) (reply : Reply) → MatchOption s (IsFaultReply line reply) (λ s. IsAnswerWithin set h None (request_within set.head.origin s) reply)
-    → pending_after (option_and_then (request_within set.head.origin) s) reply None ≡ None
-unplanned_line set h line None reply a = refl
-unplanned_line set h line (Some s) reply a = unplanned_within set h (request_within set.head.origin s) reply a
-
 front_by : (r : Reading) (shown : Option ℕ) (n : ℕ) → IfSome shown (λ f. f ≡ n) → IsFrontBy r shown n
 front_by Shown None n h = tt
 front_by Shown (Some f) n h = sym h
@@ -231,7 +174,7 @@ shown_kept : (shown printed : Option ℕ) (n : ℕ) → IfSome shown (λ f. f �
 shown_kept shown None n s p = s
 shown_kept shown (Some f) n s p = p
 
-module _ (b : Start) (old : List Entry) (lines : List (List ℕ)) (replies : List Reply) (line : List ℕ) (going : Going b old lines replies) where
+module _ (b : Start) (old : List Entry) (pending now : Option Pending) (lines : List (List ℕ)) (replies : List Reply) (line : List ℕ) (going : Going b old pending lines replies) where
   started : length b.first ≤ length old
   started = omega (arith, ap length going.begins.1, length-append b.first going.begins.0)
 
@@ -242,26 +185,26 @@ module _ (b : Start) (old : List Entry) (lines : List (List ℕ)) (replies : Lis
   request = request_of b.setting.head.origin line
 
   -- the exchange with this reply, in a history that begins with the old one
-  exchanged : (more : List Entry) (reply : Reply) → AnswersLine b.setting old None line reply → IfSome (done_front reply) (λ _. IsSomeAnd (edit_made None request) (IsEntry (old ++ more) b.author (length old))) → Exchange (sitting b) (old ++ more) told_now line reply
+  exchanged : (more : List Entry) (reply : Reply) → AnswersLine b.setting old pending line reply → IfSome (done_front reply) (λ _. IsSomeAnd (edit_made pending request) (IsEntry (old ++ more) b.author (length old))) → Exchange (sitting b) (old ++ more) told_now line reply
   unfolding told_now request
   exchanged more reply is entry = record {
     front = length old;
     not_before = started;
     there = rw (length-append old more) (omega arith);
     seen = front_for told_now.shown (spoken line) (length old) going.shown;
-    is = rw (take-append_seam old more, going.pending) is;
-    entry = rw going.pending entry;
+    is = rw (take-append_seam old more, going.plans) is;
+    entry = rw going.plans entry;
   }
 
   -- the plan that is pending afterwards
-  unplanned : (reply : Reply) → AnswersLine b.setting old None line reply → (told_by b.setting (lines ++ line ∷ []) (replies ++ reply ∷ []) told_nothing).pending ≡ None
+  plans_now : (reply : Reply) → now ≡ pending_after request reply pending → (told_by b.setting (lines ++ line ∷ []) (replies ++ reply ∷ []) told_nothing).pending ≡ now
   unfolding told_now request
-  unplanned reply is = ap (λ (t : Told). t.pending) (told_more (sitting b) old told_nothing lines replies line reply going.exchanges) ∙ ap (pending_after request reply) going.pending ∙ unplanned_line b.setting old line (spoken line) reply is
+  plans_now reply after = ap (λ (t : Told). t.pending) (told_more (sitting b) old told_nothing lines replies line reply going.exchanges) ∙ ap (pending_after request reply) going.plans ∙ sym after
 
   -- a line that leaves the entries as they are
-  kept : (reply : Reply) → AnswersLine b.setting old None line reply → done_front reply ≡ None → IfSome (front_of reply) (λ f. f ≡ length old) → Going b old (lines ++ line ∷ []) (replies ++ reply ∷ [])
+  kept : (reply : Reply) → AnswersLine b.setting old pending line reply → now ≡ pending_after request reply pending → done_front reply ≡ None → IfSome (front_of reply) (λ f. f ≡ length old) → Going b old now (lines ++ line ∷ []) (replies ++ reply ∷ [])
   unfolding told_now request
-  kept reply is none printed =
+  kept reply is after none printed =
       let untold : fronts_told (replies ++ reply ∷ []) ≡ fronts_told replies = fronts_more replies reply ∙ ap (λ d. fronts_told replies ++ front_list d) none ∙ append-nil (fronts_told replies) in
       let same : old ++ [] ≡ old = append-nil old in
       record {
@@ -269,20 +212,20 @@ module _ (b : Start) (old : List Entry) (lines : List (List ℕ)) (replies : Lis
         exchanges = exchanges_more (sitting b) old told_nothing lines replies line reply going.exchanges (subst (λ h. Exchange (sitting b) h told_now line reply) same (exchanged [] reply is (rw none tt)));
         each_once = going.each_once ∙ sym untold;
         shown = rw (told_more (sitting b) old told_nothing lines replies line reply going.exchanges) (shown_kept told_now.shown (front_of reply) (length old) going.shown printed);
-        pending = unplanned reply is;
+        plans = plans_now reply after;
         begins = going.begins;
         alone = rw untold going.alone;
       }
 
   -- a line whose edit is made
-  entered : (reply : Reply) (front : ℕ) → AnswersLine b.setting old None line reply → done_front reply ≡ Some front → front_of reply ≡ Some front → Makes b.setting.limits old (edit_made None request) front
-      → (e : Edit) → edit_made None request ≡ Some e → refusal (content_of old) (length old) b.setting.limits e ≡ None
-      → Going b (old ++ next_entry b.author old e ∷ []) (lines ++ line ∷ []) (replies ++ reply ∷ [])
+  entered : (reply : Reply) (front : ℕ) → AnswersLine b.setting old pending line reply → now ≡ pending_after request reply pending → done_front reply ≡ Some front → front_of reply ≡ Some front → Makes b.setting.limits old (edit_made pending request) front
+      → (e : Edit) → edit_made pending request ≡ Some e → refusal (content_of old) (length old) b.setting.limits e ≡ None
+      → Going b (old ++ next_entry b.author old e ∷ []) now (lines ++ line ∷ []) (replies ++ reply ∷ [])
   unfolding told_now request
-  entered reply front is done printed makes e edit lawful =
+  entered reply front is after done printed makes e edit lawful =
       let x = next_entry b.author old e in
       let told : fronts_told (replies ++ reply ∷ []) ≡ fronts_told replies ++ front ∷ [] = fronts_more replies reply ∙ ap (λ d. fronts_told replies ++ front_list d) done in
-      let entry : IsSomeAnd (edit_made None request) (IsEntry (old ++ x ∷ []) b.author (length old)) = rw edit (x, get_last old x, refl, refl) in
+      let entry : IsSomeAnd (edit_made pending request) (IsEntry (old ++ x ∷ []) b.author (length old)) = rw edit (x, get_last old x, refl, refl) in
       let length_now : length (old ++ x ∷ []) ≡ length old + 1 = length-append old (x ∷ []) in
       record {
         legal = legal_more b.setting.limits old x going.legal (lawful, refl);
@@ -294,30 +237,31 @@ module _ (b : Start) (old : List Entry) (lines : List (List ℕ)) (replies : Lis
             ∙ ap (λ n. fronts_told replies ++ n ∷ []) (rw length-drop (omega (arith, started, makes.next)))
             ∙ sym told;
         shown = rw (told_more (sitting b) old told_nothing lines replies line reply going.exchanges, printed) (makes.next ∙ sym length_now);
-        pending = unplanned reply is;
+        plans = plans_now reply after;
         begins = (going.begins.0 ++ x ∷ [], ap (λ xs. xs ++ x ∷ []) going.begins.1 ∙ append_assoc b.first going.begins.0 (x ∷ []));
         alone = rw (told, length_now) (omega (arith, going.alone, length-append (fronts_told replies) (front ∷ [])));
       }
 
-  goes : (new : List Entry) (reply : Reply) → AnswersLine b.setting old None line reply → new ≡ entries_after b.author old (edit_made None request) reply → (done printed : Option ℕ) → done_front reply ≡ done → front_of reply ≡ printed → Tells b.setting.limits old (edit_made None request) done printed
-      → Going b new (lines ++ line ∷ []) (replies ++ reply ∷ [])
+  goes : (new : List Entry) (reply : Reply) → AnswersLine b.setting old pending line reply → now ≡ pending_after request reply pending → new ≡ entries_after b.author old (edit_made pending request) reply → (done printed : Option ℕ) → done_front reply ≡ done → front_of reply ≡ printed → Tells b.setting.limits old (edit_made pending request) done printed
+      → Going b new now (lines ++ line ∷ []) (replies ++ reply ∷ [])
   unfolding Tells
-  goes new reply is entries None printed none front t =
+  goes new reply is after entries None printed none front t =
       let same : new ≡ old = rw none at entries in
-      rw same (kept reply is none (rw front t))
-  goes new reply is entries (Some f) printed done front t =
+      rw same (kept reply is after none (rw front t))
+  goes new reply is after entries (Some f) printed done front t =
       let more : new ≡ old ++ next_entry b.author old t.0.made ∷ [] = rw (done, t.0.is) at entries in
-      rw more (entered reply f is done (front ∙ t.1) t.0 t.0.made t.0.is t.0.lawful)
+      rw more (entered reply f is after done (front ∙ t.1) t.0 t.0.made t.0.is t.0.lawful)
 
-  went : (new : List Entry) (reply : Reply) → AnswersLine b.setting old None line reply → new ≡ entries_after b.author old (edit_made None request) reply → Going b new (lines ++ line ∷ []) (replies ++ reply ∷ [])
+  went : (new : List Entry) (reply : Reply) → AnswersLine b.setting old pending line reply → now ≡ pending_after request reply pending → new ≡ entries_after b.author old (edit_made pending request) reply → Going b new now (lines ++ line ∷ []) (replies ++ reply ∷ [])
   unfolding TellsOf request
-  went new reply is entries = goes new reply is entries (done_front reply) (front_of reply) refl refl (tells_line b.setting old None line (spoken line) reply is)
+  went new reply is after entries = goes new reply is after entries (done_front reply) (front_of reply) refl refl (tells_line b.setting old pending line (spoken line) reply is)
 
 -- The session goes on by one line.
-pub answered : (b : Start) (change : Journal × Journal) (lines : List (List ℕ)) (replies : List Reply) (line : List ℕ) (reply : Reply) → Going b change.0.entries lines replies → setting change.0 ≡ b.setting → ServesLine b.author None change line reply
-    → Going b change.1.entries (lines ++ line ∷ []) (replies ++ reply ∷ [])
+pub answered : (b : Start) (change : Position × Position) (lines : List (List ℕ)) (replies : List Reply) (line : List ℕ) (reply : Reply) → Going b change.0.journal.entries change.0.pending lines replies → setting change.0.journal ≡ b.setting → ServesLine b.author change line reply
+    → Going b change.1.journal.entries change.1.pending (lines ++ line ∷ []) (replies ++ reply ∷ [])
 unfolding request
 answered b change lines replies line reply going same serves =
-    went b change.0.entries lines replies line going change.1.entries reply
-    (subst (λ set. AnswersLine set change.0.entries None line reply) same serves.is)
-    (serves.entries ∙ ap (λ (set : Setting). entries_after b.author change.0.entries (edit_made None (request_of set.head.origin line)) reply) same)
+    went b change.0.journal.entries change.0.pending change.1.pending lines replies line going change.1.journal.entries reply
+    (subst (λ set. AnswersLine set change.0.journal.entries change.0.pending line reply) same serves.is)
+    (serves.pending ∙ ap (λ (set : Setting). pending_after (request_of set.head.origin line) reply change.0.pending) same)
+    (serves.entries ∙ ap (λ (set : Setting). entries_after b.author change.0.journal.entries (edit_made change.0.pending (request_of set.head.origin line)) reply) same)

@@ -1,16 +1,10 @@
-pub mod Causes
 pub mod Consumed
-pub mod Contents
 pub mod Ends
-pub mod Journals
 pub mod Lengths
 pub mod LineReplies
-pub mod Orders
-pub mod Points
 pub mod Quits
-pub mod Reliefs
-pub mod Removals
 pub mod Sessions
 pub mod Streams
 pub mod Exchanges
 pub mod Answering
+pub mod Turns

@@ -1,17 +1,15 @@
 -- From what a request did to what its line did.
-use Rattle.std.proofs.Common.{◌≡◌, ℕ, inl, inr, Bool, true, false, length, List, Option, None, Some, refl, sym, ap, ◌∙◌}
+use Rattle.std.proofs.Common.{◌≡◌, ℕ, inr, Bool, true, false, length, List, Option, None, Some, refl, sym, ap}
 use Rattle.std.specs.Prelude.{◌||◌, MatchOption, option_map, option_and_then, is_some, is_none}
 use Rattle.ground_model.specs.declared.edit.Edit.{Edit}
-use Rattle.ground_model.specs.declared.line.LineId.{LineId}
+use Rattle.ground_model.specs.declared.edit.Edit.TheVariants as edits
 use Rattle.ground_model.specs.declared.entry.Entry.{Entry}
 use Rattle.ground_model.specs.declared.limits.Limits.{Limits}
 use Rattle.ground_model.specs.Refusal.{refusal}
-use Rattle.ground_model.specs.declared.refusal.Refusal.{Refusal}
-use Rattle.ground_model.specs.Answer.{Pending, by_refusal, given_number}
+use Rattle.ground_model.specs.Answer.{Pending}
 use Rattle.ground_model.specs.History.{content_of}
-use Rattle.ground_model.proofs.Newest.{answer-newest}
 use Rattle.line_protocol.specs.declared.reply.Reply.{Reply}
-use Rattle.line_protocol.specs.declared.reply.Reply.TheVariants.{Done, Refused, Syntax, Range, Memory}
+use Rattle.line_protocol.specs.declared.reply.Reply.TheVariants.{Syntax, Range, Memory}
 use Rattle.line_protocol.specs.declared.request.Request.{Request}
 use Rattle.line_protocol.specs.declared.request.Request.TheVariants as asks
 use Rattle.line_protocol.specs.Spoken.{Spoken}
@@ -20,13 +18,10 @@ use Rattle.line_protocol.specs.Fault.{IsFaultOffset}
 use Rattle.line_protocol.specs.Within.{request_within, request_of}
 use Rattle.line_protocol.specs.Reading.{has_places, takes_memory_early}
 use Rattle.turn_lock.specs.Setting.{Setting, setting}
-use Rattle.turn_lock.specs.declared.journal.Journal.{Journal}
-use Rattle.session.specs.declared.store.Applied.TheVariants as applied
-use Rattle.session.specs.Stores.{Applies}
-use Rattle.session.specs.Table.{to_edit}
-use Rattle.session.specs.Told.{done_front}
+use Rattle.store.specs.Outcomes.{is_new_line}
+use Rattle.session.specs.Told.{done_front, pending_after}
 use Rattle.session.specs.Transcript.{IsFaultReply, takes_memory, IsAnswer, IsAnswerWithin, AnswersLine}
-use Rattle.session.specs.Talking.{Serves, ServesLine}
+use Rattle.session.specs.Talking.{Position, Serves, ServesLine}
 
 -- the answer to a line, by what it spells
 by_spoken : (set : Setting) (h : List Entry) (pending : Option Pending) (line : List ℕ) (reply : Reply) → Option Spoken → Type 0
@@ -38,16 +33,17 @@ within_by set h pending line reply None request e answer = cc
 within_by set h pending line reply (Some s) request e answer = rw e answer
 
 -- a line's request was served
-pub serves_line : (author : ℕ) (pending : Option Pending) (change : Journal × Journal) (line : List ℕ) (request : Request) (reply : Reply) → request_of change.0.head.origin line ≡ Some request → Serves author pending change request reply → ServesLine author pending change line reply
+pub serves_line : (author : ℕ) (change : Position × Position) (line : List ℕ) (request : Request) (reply : Reply) → request_of change.0.journal.head.origin line ≡ Some request → Serves author change request reply → ServesLine author change line reply
 unfolding by_spoken
-serves_line author pending change line request reply is serves = record {
-  is = within_by (setting change.0) change.0.entries pending line reply (spoken line) request is serves.is;
+serves_line author change line request reply is serves = record {
+  is = within_by (setting change.0.journal) change.0.journal.entries change.0.pending line reply (spoken line) request is serves.is;
   entries = rw is serves.entries;
+  pending = rw is serves.pending;
   stays = serves.stays;
 }
 
-unserved : (author : ℕ) (pending : Option Pending) (j : Journal) (line : List ℕ) (reply : Reply) → done_front reply ≡ None → AnswersLine (setting j) j.entries pending line reply → ServesLine author pending (j, j) line reply
-unserved author pending j line reply none is = record { is = is; entries = rw none refl; stays = refl }
+unserved : (author : ℕ) (at : Position) (line : List ℕ) (reply : Reply) → done_front reply ≡ None → at.pending ≡ pending_after (request_of at.journal.head.origin line) reply at.pending → AnswersLine (setting at.journal) at.journal.entries at.pending line reply → ServesLine author (at, at) line reply
+unserved author at line reply none after is = record { is = is; entries = rw none refl; pending = after; stays = refl }
 
 range_by : (set : Setting) (h : List Entry) (pending : Option Pending) (line : List ℕ) (s : Option Spoken) → is_some s ≡ true → option_and_then (request_within set.head.origin) s ≡ None → by_spoken set h pending line Range s
 unfolding by_spoken
@@ -55,9 +51,9 @@ range_by set h pending line None there outside = cc
 range_by set h pending line (Some s) there outside = rw outside refl
 
 -- a line whose request is outside its limits
-pub range_line : (author : ℕ) (pending : Option Pending) (j : Journal) (line : List ℕ) → is_some (spoken line) ≡ true → request_of j.head.origin line ≡ None → ServesLine author pending (j, j) line Range
+pub range_line : (author : ℕ) (at : Position) (line : List ℕ) → is_some (spoken line) ≡ true → request_of at.journal.head.origin line ≡ None → ServesLine author (at, at) line Range
 unfolding by_spoken
-range_line author pending j line there outside = unserved author pending j line Range refl (range_by (setting j) j.entries pending line (spoken line) there outside)
+range_line author at line there outside = unserved author at line Range refl (sym (ap (λ r. pending_after r Range at.pending) outside)) (range_by (setting at.journal) at.journal.entries at.pending line (spoken line) there outside)
 
 fault_by : (set : Setting) (h : List Entry) (pending : Option Pending) (line : List ℕ) (s : Option Spoken) (k : ℕ) → s ≡ None → IsFaultOffset line k → by_spoken set h pending line (Syntax k) s
 unfolding by_spoken
@@ -65,18 +61,27 @@ fault_by set h pending line None k e at = (k, at, refl)
 fault_by set h pending line (Some s) k e at = cc
 
 -- a line that is no request
-pub fault_line : (author : ℕ) (pending : Option Pending) (j : Journal) (line : List ℕ) (k : ℕ) → spoken line ≡ None → IsFaultOffset line k → ServesLine author pending (j, j) line (Syntax k)
+pub fault_line : (author : ℕ) (at : Position) (line : List ℕ) (k : ℕ) → spoken line ≡ None → IsFaultOffset line k → ServesLine author (at, at) line (Syntax k)
 unfolding by_spoken
-fault_line author pending j line k none at = unserved author pending j line (Syntax k) refl (fault_by (setting j) j.entries pending line (spoken line) k none at)
+fault_line author at line k none offset =
+    unserved author at line (Syntax k) refl (sym (ap (λ s. pending_after (option_and_then (request_within at.journal.head.origin) s) (Syntax k) at.pending) none)) (fault_by (setting at.journal) at.journal.entries at.pending line (spoken line) k none offset)
 
 or_first : (x y : Bool) → x ≡ true → (x || y) ≡ true
 or_first true y e = refl
 or_first false y e = cc
 
+-- an edit whose places are read is a new line
+new_line : (edit : Edit) → has_places edit ≡ true → is_new_line edit ≡ true
+new_line (edits.AddLine kind places) e = refl
+new_line (edits.AddPoint p z) e = e
+new_line (edits.RemovePoint p) e = e
+new_line (edits.SetLevel p z) e = e
+new_line (edits.RemoveLine id) e = e
+
 -- a request for which memory is taken while its line is read takes memory
 early_takes : (limits : Limits) (h : List Entry) (pending : Option Pending) (request : Request) → takes_memory_early request ≡ true → takes_memory limits h pending request ≡ true
-early_takes limits h pending (asks.Plan edit) e = e
-early_takes limits h pending (asks.Apply edit) e = or_first (has_places edit) (is_none (refusal (content_of h) (length h) limits edit)) e
+early_takes limits h pending (asks.Plan edit) e = or_first (is_new_line edit) (is_none (refusal (content_of h) (length h) limits edit)) (new_line edit e)
+early_takes limits h pending (asks.Apply edit) e = refl
 early_takes limits h pending asks.Sync e = cc
 early_takes limits h pending asks.Commit e = cc
 early_takes limits h pending (asks.Level p) e = cc
@@ -95,35 +100,21 @@ unfolding by_spoken
 memory_by set h pending line None early = cc
 memory_by set h pending line (Some s) early = memory_within set h pending (request_within set.head.origin s) early
 
+-- a line whose places are read leaves the pending plan where memory runs out
+memory_pending : (r : Option Request) (pending : Option Pending) → option_map takes_memory_early r ≡ Some true → pending ≡ pending_after r Memory pending
+memory_pending None pending early = cc
+memory_pending (Some (asks.Plan edit)) pending early = refl
+memory_pending (Some (asks.Apply edit)) pending early = refl
+memory_pending (Some asks.Sync) pending early = refl
+memory_pending (Some asks.Commit) pending early = refl
+memory_pending (Some (asks.Level p)) pending early = refl
+memory_pending (Some (asks.Contour z)) pending early = refl
+memory_pending (Some (asks.Volume z)) pending early = refl
+memory_pending (Some asks.Stat) pending early = refl
+memory_pending (Some asks.Export) pending early = refl
+memory_pending (Some asks.Quit) pending early = refl
+
 -- a line for whose places there was no room
-pub memory_line : (author : ℕ) (pending : Option Pending) (j : Journal) (line : List ℕ) → option_map takes_memory_early (request_of j.head.origin line) ≡ Some true → ServesLine author pending (j, j) line Memory
+pub memory_line : (author : ℕ) (at : Position) (line : List ℕ) → option_map takes_memory_early (request_of at.journal.head.origin line) ≡ Some true → ServesLine author (at, at) line Memory
 unfolding by_spoken
-memory_line author pending j line early = unserved author pending j line Memory refl (memory_by (setting j) j.entries pending line (spoken line) early)
-
--- an edit was made
-pub serves_done : (author : ℕ) (pending : Option Pending) (change : Journal × Journal) (edit : Edit) (front : ℕ) (line : Option LineId) → Applies author edit change.0 change.1 (applied.Done front line) → Serves author pending change (asks.Apply edit) (Done front line)
-serves_done author pending change edit front line a =
-    let old = change.0 in
-    record {
-      is = inl (sym (ap to_edit (answer-newest old.limits old.entries edit ∙ ap (by_refusal old.entries edit) a.0) ∙ ap (λ f. Done f (given_number (content_of old.entries) edit)) (sym a.1) ∙ ap (Done front) (sym a.2)));
-      entries = ap (λ (j : Journal). j.entries) a.3;
-      stays = ap setting a.3;
-    }
-
--- an edit was refused
-pub serves_refused : (author : ℕ) (pending : Option Pending) (change : Journal × Journal) (edit : Edit) (front : ℕ) (cause : Refusal) → Applies author edit change.0 change.1 (applied.Refused front cause) → Serves author pending change (asks.Apply edit) (Refused front cause)
-serves_refused author pending change edit front cause a =
-    let old = change.0 in
-    record {
-      is = inl (sym (ap to_edit (answer-newest old.limits old.entries edit ∙ ap (by_refusal old.entries edit) a.0) ∙ ap (λ f. Refused f cause) (sym a.1)));
-      entries = ap (λ (j : Journal). j.entries) a.2;
-      stays = ap setting a.2;
-    }
-
--- there was no room for an edit that takes some
-pub serves_memory : (author : ℕ) (pending : Option Pending) (change : Journal × Journal) (edit : Edit) → Applies author edit change.0 change.1 applied.Memory → Serves author pending change (asks.Apply edit) Memory
-serves_memory author pending change edit a = record {
-  is = inr (a.0, refl);
-  entries = ap (λ (j : Journal). j.entries) a.1;
-  stays = ap setting a.1;
-}
+memory_line author at line early = unserved author at line Memory refl (memory_pending (request_of at.journal.head.origin line) at.pending early) (memory_by (setting at.journal) at.journal.entries at.pending line (spoken line) early)

@@ -8,7 +8,7 @@ use Rattle.ground_model.specs.declared.refusal.Refusal.{Refusal}
 use Rattle.ground_model.specs.History.{content_of}
 use Rattle.ground_model.specs.Refusal.{refusal}
 use Rattle.ground_model.specs.declared.limits.Limits.{Limits}
-use Rattle.ground_model.specs.Answer.{Pending, answer, by_refusal}
+use Rattle.ground_model.specs.Answer.{Pending, Answer, Conflict, Refused, Done, answer, by_refusal}
 use Rattle.ground_model.proofs.Newest.{answer-newest}
 use Rattle.line_protocol.specs.declared.reply.Reply.{Reply}
 use Rattle.line_protocol.specs.declared.request.Request.{Request}
@@ -17,12 +17,11 @@ use Rattle.line_protocol.specs.Spoken.{Spoken, Sync, Plan, Commit, Apply, Level,
 use Rattle.line_protocol.specs.Grammar.{spoken}
 use Rattle.line_protocol.specs.Within.{request_within, edit_within, place_within, level_within}
 use Rattle.turn_lock.specs.Setting.{Setting, setting}
-use Rattle.turn_lock.specs.declared.journal.Journal.{Journal}
-use Rattle.session.specs.Table.{to_edit, IsReply}
+use Rattle.session.specs.Table.{to_edit, to_plan, to_commit, IsReply}
 use Rattle.session.specs.Transcript.{takes_memory, IsFaultReply, IsAnswerWithin, QuitIsLast}
 use Rattle.session.specs.Talk.{asks_quit, is_quit, up_to_quit, has_quit}
-use Rattle.session.specs.Talking.{is_bye, ServesLine}
-use Rattle.session.proofs.Exchanges.{get_more}
+use Rattle.session.specs.Talking.{Position, is_bye, ServesLine}
+use Rattle.store.proofs.Journals.{get_more}
 
 or_none : (a b : Bool) → a || b ≡ false → (a ≡ false) × (b ≡ false)
 or_none true b e = cc
@@ -98,6 +97,19 @@ bye_edit h e (Some cause) = refl
 bye_applied : (set : Setting) (h : List Entry) (e : Edit) (reply : Reply) → reply ≡ to_edit (answer set.limits h (length h) e) → is_bye reply ≡ false
 bye_applied set h e reply is = rw (is ∙ ap to_edit (answer-newest set.limits h e)) (bye_edit h e (refusal (content_of h) (length h) set.limits e))
 
+bye_plan : (h : List Entry) (e : Edit) (cause : Option Refusal) → is_bye (to_plan h e cause) ≡ false
+bye_plan h e None = refl
+bye_plan h e (Some cause) = refl
+
+bye_answer : (a : Answer) → is_bye (to_edit a) ≡ false
+bye_answer (Conflict front m) = refl
+bye_answer (Refused front cause) = refl
+bye_answer (Done front line) = refl
+
+bye_commit : (set : Setting) (h : List Entry) (pending : Option Pending) → is_bye (to_commit set h pending) ≡ false
+bye_commit set h None = refl
+bye_commit set h (Some plan) = bye_answer (answer set.limits h plan.base plan.edit)
+
 asks_bye : Option Request → Bool
 asks_bye (Some asks.Quit) = true
 asks_bye request = false
@@ -108,8 +120,8 @@ bye_request set h pending (asks.Apply e) reply is = bye_applied set h e reply is
 bye_request set h pending asks.Stat reply is = rw is refl
 bye_request set h pending asks.Quit reply is = rw is refl
 bye_request set h pending asks.Sync reply is = rw is refl
-bye_request set h pending (asks.Plan e) reply is = rw is refl
-bye_request set h pending asks.Commit reply is = rw is refl
+bye_request set h pending (asks.Plan e) reply is = ap is_bye is ∙ bye_plan h e (refusal (content_of h) (length h) set.limits e)
+bye_request set h pending asks.Commit reply is = ap is_bye is ∙ bye_commit set h pending
 bye_request set h pending (asks.Level p) reply is = rw is refl
 bye_request set h pending (asks.Contour z) reply is = rw is refl
 bye_request set h pending (asks.Volume z) reply is = rw is refl
@@ -161,5 +173,5 @@ bye_line : (set : Setting) (h : List Entry) (pending : Option Pending) (line : L
 bye_line set h pending line None reply a = rw a.2 refl
 bye_line set h pending line (Some s) reply a = bye_within set h pending (request_within set.head.origin s) reply a ∙ within_bye set s
 
-pub bye_is : (author : ℕ) (pending : Option Pending) (change : Journal × Journal) (line : List ℕ) (reply : Reply) → ServesLine author pending change line reply → is_bye reply ≡ is_quit line
-bye_is author pending change line reply a = bye_line (setting change.0) change.0.entries pending line (spoken line) reply a.is
+pub bye_is : (author : ℕ) (change : Position × Position) (line : List ℕ) (reply : Reply) → ServesLine author change line reply → is_bye reply ≡ is_quit line
+bye_is author change line reply a = bye_line (setting change.0.journal) change.0.journal.entries change.0.pending line (spoken line) reply a.is

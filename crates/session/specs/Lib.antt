@@ -5,6 +5,5 @@ pub mod Table
 pub mod Transcript
 pub mod Order
 pub mod Talk
-pub mod Surfaces
-pub mod Stores
 pub mod Talking
+pub mod Sessions

@@ -16,7 +16,7 @@ use Rattle.turn_lock.specs.declared.journal.Journal.{Journal}
 use Rattle.session.specs.Lines.{whole_lines, unfinished}
 use Rattle.session.specs.Order.{received, sent, AnswersInTime}
 use Rattle.session.specs.Texts.{text_at, texts}
-use Rattle.session.specs.Told.{Told, told_nothing, told_after, done_front, edit_made, fronts_told}
+use Rattle.session.specs.Told.{Told, told_nothing, told_after, pending_after, done_front, edit_made, fronts_told}
 use Rattle.session.specs.Transcript.{Sitting, Transcript, Exchanges, AnswersLine, IsAnswer, fronts_by}
 use Rattle.session.specs.Talk.{AreTaken, AreWritten, up_to_quit, has_quit, is_quit}
 use Rattle.session.specs.declared.conversation.Ended.{Ended}
@@ -32,17 +32,24 @@ with_entry author h (Some edit) = h ++ next_entry author h edit ∷ []
 abbrev pub entries_after : ℕ → List Entry → Option Edit → Reply → List Entry
 entries_after author h edit reply = if is_some (done_front reply) then with_entry author h edit else h
 
--- what one request did to a journal, where this plan of the session was pending
-pub record Serves (author : ℕ) (pending : Option Pending) (change : Journal × Journal) (request : Request) (reply : Reply) : Type 0 where
-  pub is : IsAnswer (setting change.0) change.0.entries pending request reply
-  pub entries : change.1.entries ≡ entries_after author change.0.entries (edit_made pending (Some request)) reply
-  pub stays : setting change.1 ≡ setting change.0
+-- what a session works on: the journal of its store, and its pending plan
+pub record Position : Type 0 where
+  pub journal : Journal
+  pub pending : Option Pending
 
--- what one line did to a journal, where this plan of the session was pending
-pub record ServesLine (author : ℕ) (pending : Option Pending) (change : Journal × Journal) (line : List ℕ) (reply : Reply) : Type 0 where
-  pub is : AnswersLine (setting change.0) change.0.entries pending line reply
-  pub entries : change.1.entries ≡ entries_after author change.0.entries (edit_made pending (request_of change.0.head.origin line)) reply
-  pub stays : setting change.1 ≡ setting change.0
+-- what one request did
+pub record Serves (author : ℕ) (change : Position × Position) (request : Request) (reply : Reply) : Type 0 where
+  pub is : IsAnswer (setting change.0.journal) change.0.journal.entries change.0.pending request reply
+  pub entries : change.1.journal.entries ≡ entries_after author change.0.journal.entries (edit_made change.0.pending (Some request)) reply
+  pub pending : change.1.pending ≡ pending_after (Some request) reply change.0.pending
+  pub stays : setting change.1.journal ≡ setting change.0.journal
+
+-- what one line did
+pub record ServesLine (author : ℕ) (change : Position × Position) (line : List ℕ) (reply : Reply) : Type 0 where
+  pub is : AnswersLine (setting change.0.journal) change.0.journal.entries change.0.pending line reply
+  pub entries : change.1.journal.entries ≡ entries_after author change.0.journal.entries (edit_made change.0.pending (request_of change.0.journal.head.origin line)) reply
+  pub pending : change.1.pending ≡ pending_after (request_of change.0.journal.head.origin line) reply change.0.pending
+  pub stays : setting change.1.journal ≡ setting change.0.journal
 
 -- the farewell, which ends a session
 abbrev pub is_bye : Reply → Bool
@@ -85,21 +92,21 @@ pub record Start : Type 0 where
 abbrev pub sitting : Start → Sitting
 sitting b = record { setting = b.setting; author = b.author; start = length b.first }
 
--- a session so far, which has the store to itself, and whose entries are h now
-pub record Going (b : Start) (h : List Entry) (lines : List (List ℕ)) (replies : List Reply) : Type 0 where
+-- a session so far, which has the store to itself, whose entries are h now, and whose pending plan is this
+pub record Going (b : Start) (h : List Entry) (pending : Option Pending) (lines : List (List ℕ)) (replies : List Reply) : Type 0 where
   pub legal : IsLegal b.setting.limits h
   pub exchanges : Exchanges (sitting b) h told_nothing lines replies
   pub each_once : fronts_by b.author (length b.first) (drop (length b.first) h) ≡ fronts_told replies
   pub shown : IfSome (told_by b.setting lines replies told_nothing).shown (λ f. f ≡ length h)
-  pub pending : (told_by b.setting lines replies told_nothing).pending ≡ None
+  pub plans : (told_by b.setting lines replies told_nothing).pending ≡ pending
   pub begins : (more : List Entry) × (h ≡ b.first ++ more)
   pub alone : length h ≡ length b.first + length (fronts_told replies)
 
 -- a session that goes on: of the bytes that it got, these were looked at, and all of their lines are answered
-pub record Talking (b : Start) (h : List Entry) (output : Output) (got seen : List ℕ) : Type 0 where
+pub record Talking (b : Start) (h : List Entry) (pending : Option Pending) (output : Output) (got seen : List ℕ) : Type 0 where
   pub replies : List Reply
   pub events : List Event
-  pub going : Going b h (whole_lines seen) replies
+  pub going : Going b h pending (whole_lines seen) replies
   pub written : Appends b.output.written output.written (texts b.setting h replies)
   pub no_quit : has_quit (whole_lines seen) ≡ false
   pub ordered : GoesOnWith b.output.order output.order events
@@ -144,14 +151,15 @@ pub record PutsSome (old new : Output) (text : List ℕ) : Type 0 where
   pub sent : SendsSome old.order new.order text
 
 -- one line that was answered: at Ok its reply is written whole, and it is known whether the line asks to quit; at Err a beginning of its reply is written
-pub record Answered {E : Type 0} (author : ℕ) (change : Journal × Journal) (line : List ℕ) (output : Output × Output) (result : Result Bool E) : Type 0 where
+pub record Answered {E : Type 0} (author : ℕ) (change : Position × Position) (line : List ℕ) (output : Output × Output) (result : Result Bool E) : Type 0 where
   pub reply : Reply
-  pub serves : ServesLine author None change line reply
-  pub told : MatchResult result (λ quit. (quit ≡ is_quit line) × Puts output.0 output.1 (text_at (setting change.0) change.0.entries reply)) (λ _. PutsSome output.0 output.1 (text_at (setting change.0) change.0.entries reply))
+  pub serves : ServesLine author change line reply
+  pub told : MatchResult result (λ quit. (quit ≡ is_quit line) × Puts output.0 output.1 (text_at (setting change.0.journal) change.0.journal.entries reply)) (λ _. PutsSome output.0 output.1 (text_at (setting change.0.journal) change.0.journal.entries reply))
 
--- a session at one moment within a piece: the journal, the line so far, and the output
+-- a session at one moment within a piece: the journal, its pending plan, the line so far, and the output
 pub record Moment : Type 0 where
   pub journal : Journal
+  pub pending : Option Pending
   pub rest : List ℕ
   pub output : Output
 
@@ -163,8 +171,8 @@ start_at author journal first output = record { setting = setting journal; autho
 abbrev pub GoesOn : ℕ → Moment → Moment → List ℕ → Option Ended → Type 0
 GoesOn author old new bytes result =
     (first : List Entry) (seen : List ℕ) (at_first : Output) → let b = start_at author old.journal first at_first in
-    Talking b old.journal.entries old.output (seen ++ bytes) seen → unfinished seen ≡ old.rest
-    → MatchOption result (Talking b new.journal.entries new.output (seen ++ bytes) (seen ++ bytes) × (unfinished (seen ++ bytes) ≡ new.rest))
+    Talking b old.journal.entries old.pending old.output (seen ++ bytes) seen → unfinished seen ≡ old.rest
+    → MatchOption result (Talking b new.journal.entries new.pending new.output (seen ++ bytes) (seen ++ bytes) × (unfinished (seen ++ bytes) ≡ new.rest))
     (λ end. Stops b new.journal.entries new.output (seen ++ bytes) end)
 
 -- a read gave the first n bytes of the piece, none only at the end, and nothing where it failed

@@ -1,11 +1,10 @@
 -- Which replies a session may give to its lines, over one history.
-use Rattle.std.specs.Prelude.{◌≡◌, ◌==◌, ℕ, suc, ◌+◌, ◌≤◌, ◌⊎◌, Bool, true, false, ◌||◌, List, [], ◌∷◌, take, drop, slice_get, length, Option, Some, None, is_none, IfSome, IsSomeAnd, MatchOption, if◌then◌else◌, ⊤}
+use Rattle.std.specs.Prelude.{◌≡◌, ◌==◌, ℕ, suc, ◌+◌, ◌≤◌, ◌⊎◌, Bool, true, false, List, [], ◌∷◌, take, drop, slice_get, length, Option, Some, None, is_some, IfSome, IsSomeAnd, MatchOption, if◌then◌else◌, ⊤}
 use Rattle.ground_model.specs.declared.edit.Edit.{Edit}
 use Rattle.ground_model.specs.declared.entry.Entry.{Entry}
 use Rattle.ground_model.specs.declared.limits.Limits.{Limits}
 use Rattle.ground_model.specs.Answer.{Pending}
-use Rattle.ground_model.specs.History.{content_of, IsLegal}
-use Rattle.ground_model.specs.Refusal.{refusal}
+use Rattle.ground_model.specs.History.{IsLegal}
 use Rattle.line_protocol.specs.declared.reply.Reply.{Reply}
 use Rattle.line_protocol.specs.declared.reply.Reply.TheVariants.{Syntax, Range, Memory}
 use Rattle.line_protocol.specs.declared.request.Request.{Request}
@@ -14,7 +13,7 @@ use Rattle.line_protocol.specs.Spoken.{Spoken, Sync, Plan, Commit, Apply, Level,
 use Rattle.line_protocol.specs.Grammar.{spoken}
 use Rattle.line_protocol.specs.Fault.{IsFaultOffset}
 use Rattle.line_protocol.specs.Within.{request_within, request_of}
-use Rattle.line_protocol.specs.Reading.{has_places}
+use Rattle.store.specs.Outcomes.{takes_room}
 use Rattle.turn_lock.specs.Setting.{Setting}
 use Rattle.session.specs.Told.{Told, told_nothing, told_after, done_front, edit_made, fronts_told}
 use Rattle.session.specs.Table.{IsReply}
@@ -55,16 +54,12 @@ abbrev pub IsFrontFor : Option ℕ → Option Spoken → ℕ → Type 0
 IsFrontFor shown None front = ⊤
 IsFrontFor shown (Some s) front = IsFrontBy (reading s) shown front
 
--- whether making the edit takes memory: a new line does before it is known whether it is lawful, any other edit only where it is
-abbrev pub takes_room : Limits → List Entry → Edit → Bool
-takes_room limits h edit = has_places edit || is_none (refusal (content_of h) (length h) limits edit)
-
--- whether a request within its limits takes memory at the history h, where this plan is pending
+-- whether a request within its limits takes memory at the history h, where this plan is pending: a version that is held takes some, and so does an edit that is planned, where it is lawful or a new line
 abbrev pub takes_memory : Limits → List Entry → Option Pending → Request → Bool
-takes_memory limits h pending (asks.Apply edit) = takes_room limits h edit
-takes_memory limits h pending (asks.Plan edit) = has_places edit
-takes_memory limits h pending asks.Sync = false
-takes_memory limits h pending asks.Commit = false
+takes_memory limits h pending asks.Sync = true
+takes_memory limits h pending (asks.Plan edit) = takes_room limits h edit
+takes_memory limits h pending asks.Commit = is_some pending
+takes_memory limits h pending (asks.Apply edit) = true
 takes_memory limits h pending (asks.Level p) = false
 takes_memory limits h pending (asks.Contour z) = false
 takes_memory limits h pending (asks.Volume z) = false

@@ -4,10 +4,7 @@
 
 mod conversation;
 mod line;
-mod refusals;
-mod slopes;
-mod store;
-mod surface;
+mod session;
 
 pub use conversation::{Ended, talk};
-pub use store::Store;
+pub use session::{Session, Work, WorkDone, begin_turn, end_turn, needs_turn, own_step, turn_step};

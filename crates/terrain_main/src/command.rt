@@ -14,8 +14,9 @@ use crate::status::Status;
 use ground_io::{Pair, Sink, Source, write_all};
 use ground_model::Limits;
 use ground_num::{Head, LinearUnit, Name, Origin, Thousandths};
-use session::{Ended, Store, talk};
+use session::{Ended, talk};
 use std::alloc::{AllocError, Global};
+use store::Store;
 
 /// The bytes that one session may read.
 const BUDGET: u64 = 1 << 40;
@@ -31,7 +32,7 @@ fn is_talk_command(words: &[String]) -> bool
 
 // The surface of `talk`: empty, named `ground`, in metres, with the origin 0 0.
 fn empty_ground(alloc: Global) -> Result<Store, AllocError>
-    ensures { IfOk result IsEmptyGround }
+    ensures { IfOk result (λ store. IsEmptyGround store.journal) }
 {
     let Ok(name) = Name::from_bytes(alloc, b"ground") else {
         return Err(AllocError);
@@ -54,7 +55,7 @@ fn talk_over<I: Source, O: Sink>(
     input: &mut I,
     output: &mut O,
 ) -> Ended
-    ensures session { (entries : List Entry) × Talk (record { setting = setting store.old; author = 1; start = length store.old.entries }) (2 ^ 40) (record { entries = store.old.entries; wire = both_sides (I.left input.old) (O.written output.old) (I.read_faults input.old) (O.write_faults output.old) }) (record { entries = entries; wire = both_sides (I.left input.new) (O.written output.new) (I.read_faults input.new) (O.write_faults output.new) }) result }
+    ensures session { (entries : List Entry) × Talk (record { setting = setting store.old.journal; author = 1; start = length store.old.journal.entries }) (2 ^ 40) (record { entries = store.old.journal.entries; wire = both_sides (I.left input.old) (O.written output.old) (I.read_faults input.old) (O.write_faults output.old) }) (record { entries = entries; wire = both_sides (I.left input.new) (O.written output.new) (I.read_faults input.new) (O.write_faults output.new) }) result }
     ensures read_fault { result ≡ ended.ReadFault → Rose (I.read_faults input.old) (I.read_faults input.new) }
     ensures reads_passed { result ≢ ended.ReadFault → I.read_faults input.new ≡ I.read_faults input.old }
     ensures write_fault { result ≡ ended.WriteFault → Rose (O.write_faults output.old) (O.write_faults output.new) }

@@ -4,7 +4,7 @@ use crate::command::exit_status;
 use crate::sessions::{converse, ground, number_in, replies_to};
 use ground_io::{Call, Link, MemLink, MemSink, MemSource, Pair, Recorded, StdSource};
 use ground_model::Limits;
-use session::Store;
+use store::Store;
 use std::alloc::{AllocError, Global};
 use std::io::{self, Read};
 use std::process::Abort;

@@ -36,10 +36,22 @@ do add 1.2345 0 0|error syntax 12
 level 0|error syntax 7
 |error syntax 0
 
+plans, and a conflict with an edit of one's own
+do add 0 0 0|done 1
+sync|front 1
+plan set 0 0 9|planned 1 1
+commit|done 2
+plan remove 0 0|planned 2 1
+commit|done 3
+commit|error no-plan
+do add 0 0 0|done 4
+plan set 0 0 5|planned 4 1
+plan add 0 0 1|refused 4 occupied 0.000
+do set 0 0 7|done 5
+commit|conflict 5 at 0.000 0.000
+stat|stat 5 points 1 lines 0
+
 what isn't built
-sync|error unbuilt
-plan line break 0 0 1 1|error unbuilt
-commit|error unbuilt
 contour 5|error unbuilt
 volume 5|error unbuilt
 export|error unbuilt

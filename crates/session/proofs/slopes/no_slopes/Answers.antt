@@ -1,7 +1,0 @@
-use Rattle.std.proofs.Common.{sym, subst, ◌∙◌}
-use Rattle.measures.specs.SlopeList.{IsRelief}
-use Rattle.session.proofs.Reliefs.{relief-none}
-use Rattle.session.proofs.slopes.no_slopes.Goals as goal
-
-pub new-requires : goal.new-requires
-new-requires c = subst IsRelief (sym (c.from_vec.ensures ∙ c.new-slopes.ensures.items)) relief-none

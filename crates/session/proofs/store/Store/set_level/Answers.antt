@@ -1,6 +1,0 @@
-use Rattle.std.proofs.Common.{sym, ◌∙◌}
-use Rattle.session.proofs.Removals.{level-there}
-use Rattle.session.proofs.store.Store.set_level.Goals as goal
-
-pub with_level-requires : goal.with_level-requires
-with_level-requires c = level-there c.self.inside.surface c.self.inside.limits c.args.place c.args.level (sym (c.level_refusal.ensures c.self.inside.limits c.args.level) ∙ c.in_default.ensures.own)

@@ -1,7 +1,0 @@
-use Rattle.std.proofs.Common.{sym}
-use Rattle.session.proofs.Contents.{points_of-content}
-use Rattle.session.proofs.Journals.{ok_by}
-use Rattle.session.proofs.surface.Surface.places.Goals as goal
-
-pub returns : goal.returns
-returns c = rw (← c.self.view_is) (ok_by (λ places. places.items) _ _ _ (sym (points_of-content c.self.inside.points.entries c.self.inside.lines c.self.invariant.sorted)) c.places_of.ensures.value)

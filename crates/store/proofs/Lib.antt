@@ -1,0 +1,13 @@
+pub mod Answered
+pub mod Born
+pub mod Causes
+pub mod Contents
+pub mod Counted
+pub mod Journals
+pub mod Oks
+pub mod Orders
+pub mod Points
+pub mod Reliefs
+pub mod Removals
+pub mod Sound
+pub mod Zones

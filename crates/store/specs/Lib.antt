@@ -1,0 +1,5 @@
+pub mod Surfaces
+pub mod Births
+pub mod Versions
+pub mod Outcomes
+pub mod Answers

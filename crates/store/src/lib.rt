@@ -1,0 +1,22 @@
+//! One surface under edits: versions that share what they have, plans made on them without a lock,
+//! and the store that commits them. It never asks who edits, nor how a plan or an answer is written.
+#![tactic(auto)]
+
+mod answers;
+mod authors;
+mod births;
+mod facets;
+mod outcome;
+mod plan;
+mod refusals;
+mod slopes;
+mod state;
+mod store;
+mod surface;
+mod version;
+mod zone;
+
+pub use answers::{Applied, Commit};
+pub use plan::{Plan, PlanFault};
+pub use store::Store;
+pub use version::Version;
