@@ -4,12 +4,12 @@ use crate::command::exit_status;
 use crate::sessions::{converse, ground, number_in, replies_to};
 use ground_io::{Call, Link, MemLink, MemSink, MemSource, Pair, Recorded, StdSource};
 use ground_model::Limits;
-use store::Store;
 use std::alloc::{AllocError, Global};
 use std::io::{self, Read};
 use std::process::Abort;
 use std::slice;
 use std::test::Fail;
+use store::Store;
 
 // Each row: the budget, what goes wrong, what is read, and then the end, what is written, and what a
 // session afterwards answers to `stat`. `;` stands for a line's end.

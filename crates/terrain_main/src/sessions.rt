@@ -8,10 +8,10 @@ use ground_io::{Link, MemLink};
 use ground_model::Limits;
 use ground_num::{Head, LinearUnit, Name, Origin, Thousandths};
 use session::{Ended, talk};
-use store::Store;
 use std::alloc::{AllocError, Global};
 use std::process::Abort;
 use std::test::Fail;
+use store::Store;
 
 pub(crate) fn ground(alloc: Global, limits: Limits) -> Result<Store, Fail> {
     let head = Head {
