@@ -9,7 +9,7 @@ pub returns-in-Ok-clause-talks : goal.returns-in-Ok-clause-talks
 returns-in-Ok-clause-talks g c =
     let session = c.talk_over.ensures.session in
     record {
-      set = setting c.in-Ok.store;
+      set = setting c.in-Ok.store.journal;
       ground = c.in-Ok.ensures.0;
       end = c.talk_over.result;
       entries = session.0;
