@@ -1,8 +1,8 @@
 #!/usr/bin/env bash
-# Prints how many million calls of `orientation` and `is_inside` a second this machine makes, over random
-# places and over cocircular ones, and how many of `side` and `in_circle` over corners that are places. The program that times them is made in a folder of its own,
-# from the text below over copies of the crates, proved, built and run; it stays no longer than
-# the script.
+# Prints how many million calls of `orientation` and `is_inside` a second this machine makes, over random places
+# and over cocircular ones, and how many of `side` and `in_circle` over corners that are places. The program that
+# times them is made in a folder of its own, from the text below over copies of the crates, proved, built and run;
+# it stays no longer than the script.
 set -eu
 top=$(cd "$(dirname "$0")/.." && pwd)
 work=$(mktemp -d)
