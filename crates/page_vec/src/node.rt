@@ -57,13 +57,6 @@ impl<T: Clone, P: Page<T>> Node<T, P> {
         })
     }
 
-    /// A page of one entry.
-    pub(crate) fn single(alloc: Global, value: T) -> Result<Node<T, P>, AllocError>
-        ensures { IfOk result (λ n. n ≡ value ∷ []) }
-    {
-        Node::over(alloc, P::single(alloc, value)?)
-    }
-
     /// Another version of the list, on its pages.
     pub(crate) fn shared(&self) -> Result<Node<T, P>, AllocError>
         ensures { IfOk result (λ n. n ≡ self.now) }
@@ -74,48 +67,45 @@ impl<T: Clone, P: Page<T>> Node<T, P> {
             of: PhantomData,
         })
     }
+}
 
-    /// How many entries it has.
+impl<T: Clone, P: Page<T>> Page<T> for Node<T, P> {
+    ghost list = { λ n. n };
+
+    ghost room = { min (64 * P.room) (2 ^ 30) };
+
+    // The levels in use have 64 times as many entries as those below. The bound keeps the product in its
+    // type for a level of which nothing is known.
     #[inline(always)]
-    pub(crate) fn len(&self) -> u32
-        ensures len { result ≡ length self.now }
-        ensures bound { result ≤ min (64 * P.room) (2 ^ 30) }
-    {
+    fn room() -> u32 {
+        64 * P::room().min(1 << 24)
+    }
+
+    fn single(alloc: Global, value: T) -> Result<Node<T, P>, AllocError> {
+        Node::over(alloc, P::single(alloc, value)?)
+    }
+
+    #[inline(always)]
+    fn len(&self) -> u32 {
         self.len
     }
 
-    /// The entry at `k`.
     #[inline(always)]
-    pub(crate) fn get(&self, k: u32) -> &T
-        requires { k < length self.now }
-        ensures { result.now ≡ slice_index_or self.now k result.now }
-    {
+    fn get(&self, k: u32) -> &T {
         let room = P::room();
         let kid = &self.kids[(k / room) as usize];
         kid.get(k % room)
     }
 
-    /// Writes the entry at `k`.
     #[inline(always)]
-    pub(crate) fn set(&mut self, k: u32, value: T) -> Result<(), AllocError>
-        requires there { k < length self.old }
-        requires clones { (x y : T) → T.is_clone x y → y ≡ x }
-        ensures ok { OnOk result (self.new ≡ slice_set self.old k value) }
-        ensures err { OnErr result (self.new ≡ self.old) }
-    {
+    fn set(&mut self, k: u32, value: T) -> Result<(), AllocError> {
         let alloc = *self.kids.allocator();
         let room = P::room();
         write_kid(alloc, &mut self.kids[(k / room) as usize], k % room, value)?;
         Ok(())
     }
 
-    /// Adds an entry at the end.
-    pub(crate) fn push(&mut self, value: T) -> Result<(), AllocError>
-        requires fits { length self.old < min (64 * P.room) (2 ^ 30) }
-        requires clones { (x y : T) → T.is_clone x y → y ≡ x }
-        ensures ok { OnOk result (self.new ≡ self.old ++ value ∷ []) }
-        ensures err { OnErr result (self.new ≡ self.old) }
-    {
+    fn push(&mut self, value: T) -> Result<(), AllocError> {
         let alloc = *self.kids.allocator();
         let count = self.kids.len();
         if has_open_end(&self.kids) {
@@ -129,4 +119,14 @@ impl<T: Clone, P: Page<T>> Node<T, P> {
             Ok(())
         }
     }
+
+    fn copy(&self) -> Result<Node<T, P>, AllocError> {
+        self.shared()
+    }
+
+    ghost use Rattle.std.proofs.Common.{arith};
+
+    ghost some_room = { Prim.omega arith };
+
+    ghost few = { Prim.omega arith };
 }

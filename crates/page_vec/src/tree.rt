@@ -23,7 +23,7 @@ impl<T: Clone> Tree<T> {
     pub(crate) fn empty(alloc: Global) -> Tree<T>
         ensures { items_of result ≡ [] }
     {
-        Tree::Second(Second::empty(alloc))
+        Tree::Second(Node::empty(alloc))
     }
 
     /// How many entries it has.
@@ -104,8 +104,8 @@ impl<T: Clone> Tree<T> {
         ensures { IfOk result (IsRaised self.now) }
     {
         match self {
-            Tree::Second(page) => Ok(Tree::Third(Third::over(alloc, page.shared()?)?)),
-            Tree::Third(page) => Ok(Tree::Fourth(Fourth::over(alloc, page.shared()?)?)),
+            Tree::Second(page) => Ok(Tree::Third(Node::over(alloc, page.shared()?)?)),
+            Tree::Third(page) => Ok(Tree::Fourth(Node::over(alloc, page.shared()?)?)),
             Tree::Fourth(page) => Ok(Tree::Fifth(Node::over(alloc, page.shared()?)?)),
             Tree::Fifth(_) => unreachable!(),
         }

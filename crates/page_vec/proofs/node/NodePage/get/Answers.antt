@@ -1,6 +1,6 @@
 use Rattle.std.proofs.Common.{rules}
 use Rattle.page_vec.proofs.Kids.{kid_there, item_there, item_read}
-use Rattle.page_vec.proofs.node.Node.get.Goals as goal
+use Rattle.page_vec.proofs.node.NodePage.get.Goals as goal
 
 pub index-kid-requires : goal.index-kid-requires
 index-kid-requires g c =

@@ -1,7 +1,7 @@
 use Rattle.std.proofs.Common.{rules, ◌≡◌, ◌+◌, ◌-◌, ◌<◌, length, sym, ap, ◌∙◌, arith}
 use Rattle.std.proofs.lemmas.List.{length_push}
 use Rattle.page_vec.proofs.Kids.{kept, packed, longer, packed_longer}
-use Rattle.page_vec.proofs.node.Node.push.Goals as goal
+use Rattle.page_vec.proofs.node.NodePage.push.Goals as goal
 
 pub invariant_of-self : goal.invariant_of-self
 invariant_of-self g c =

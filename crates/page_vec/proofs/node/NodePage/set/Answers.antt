@@ -1,6 +1,6 @@
 use Rattle.std.proofs.Common.{rules, ◌/◌, length, sym, ap, ◌∙◌, length-set}
 use Rattle.page_vec.proofs.Kids.{kid_there, item_there, item_put, kept, packed}
-use Rattle.page_vec.proofs.node.Node.set.Goals as goal
+use Rattle.page_vec.proofs.node.NodePage.set.Goals as goal
 
 pub index_mut-requires : goal.index_mut-requires
 index_mut-requires g c =
