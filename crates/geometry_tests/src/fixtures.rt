@@ -1,6 +1,11 @@
 //! Places, pieces and facets from plain numbers. Places are written easting first.
 
-use ground_model::{Facet, Piece, Place};
+ghost use Rattle.std.specs.Prelude.{◌≡◌, IsTrue};
+ghost use Rattle.ground_model.specs.Side.{is_left};
+ghost use Rattle.ground_model.specs.Corner.{corner_at, is_corner};
+
+use ground_model::{Corner, Facet, Piece, Place};
+use predicates::side;
 use std::alloc::{AllocError, Global};
 use std::process::Abort;
 
@@ -14,6 +19,19 @@ pub(crate) type Corners = ([At; 3], [u16; 3]);
 
 /// The farthest coordinate.
 pub(crate) const L: i32 = 536_870_912;
+
+/// The points of a grid of four squares.
+pub(crate) const GRID: [At; 9] = [
+    (0, 0),
+    (0, 1),
+    (0, 2),
+    (1, 0),
+    (1, 1),
+    (1, 2),
+    (2, 0),
+    (2, 1),
+    (2, 2),
+];
 
 pub(crate) fn place(rt: &impl Abort, at: At) -> Place {
     match Place::new(at.0, at.1) {
@@ -73,4 +91,14 @@ pub(crate) fn facets(
         all.push(facet(rt, corners))?;
     }
     Ok(all)
+}
+
+#[tactic(auto, using(predicates::proofs::Orders::order_sign))]
+pub(crate) fn turns_left(a: &Corner, b: &Corner, c: &Corner) -> bool
+    requires a { IsTrue (is_corner a.now) }
+    requires b { IsTrue (is_corner b.now) }
+    requires c { IsTrue (is_corner c.now) }
+    ensures { result ≡ is_left (corner_at a.now) (corner_at b.now) (corner_at c.now) }
+{
+    side(*a, *b, *c).is_positive()
 }

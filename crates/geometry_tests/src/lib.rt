@@ -3,15 +3,23 @@
 #![tactic(auto)]
 
 #[cfg(test)]
+mod crossings;
+#[cfg(test)]
+mod far_corners;
+#[cfg(test)]
 mod fixtures;
 #[cfg(test)]
 mod kept_facets;
 #[cfg(test)]
 mod levels;
 #[cfg(test)]
+mod line_fixtures;
+#[cfg(test)]
 mod lines;
 #[cfg(test)]
 mod model;
+#[cfg(test)]
+mod places;
 #[cfg(test)]
 mod sheets;
 #[cfg(test)]

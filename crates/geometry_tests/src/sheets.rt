@@ -1,14 +1,13 @@
 //! Locally Delaunay sheets worked out by hand, far corners included: their triangles of places are the facets of
 //! their contents. Places are written easting first.
 
-ghost use Rattle.std.specs.Prelude.{◌≡◌, IsTrue};
-ghost use Rattle.ground_model.specs.Side.{is_left};
-ghost use Rattle.ground_model.specs.Corner.{corner_at, is_corner};
+ghost use Rattle.std.specs.Prelude.{IsTrue};
+ghost use Rattle.ground_model.specs.Corner.{is_corner};
 
-use crate::fixtures::{At, Joined};
+use crate::fixtures::{At, GRID, Joined, place, turns_left};
 use crate::triangles::found;
-use ground_model::{Corner, Facet, Place};
-use predicates::{in_circle, side};
+use ground_model::{Corner, Facet};
+use predicates::in_circle;
 use std::alloc::Global;
 use std::process::Abort;
 use std::test::Fail;
@@ -29,22 +28,12 @@ fn corner(rt: &impl Abort, named: Named) -> Corner
     ensures { IsTrue (is_corner result) }
 {
     match named {
-        P(e, n) => Corner::At(Place::new(e, n).expect(rt, "a place")),
+        P(e, n) => Corner::At(place(rt, (e, n))),
         F(k) => {
             assert!(rt; k < 3, "a far corner");
             Corner::Far(k)
         }
     }
-}
-
-#[tactic(auto, using(predicates::proofs::Orders::order_sign))]
-fn turns_left(a: &Corner, b: &Corner, c: &Corner) -> bool
-    requires a { IsTrue (is_corner a.now) }
-    requires b { IsTrue (is_corner b.now) }
-    requires c { IsTrue (is_corner c.now) }
-    ensures { result ≡ is_left (corner_at a.now) (corner_at b.now) (corner_at c.now) }
-{
-    side(*a, *b, *c).is_positive()
 }
 
 // Whether d lies inside the circle of a triangle, which is counterclockwise.
@@ -142,17 +131,6 @@ fn check(
 
 #[test]
 fn sheet_of_nine_points_of_a_grid(rt: HostRuntime) -> Result<(), Fail> {
-    let ats = [
-        (0, 0),
-        (0, 1),
-        (0, 2),
-        (1, 0),
-        (1, 1),
-        (1, 2),
-        (2, 0),
-        (2, 1),
-        (2, 2),
-    ];
     let sheet = [
         [P(0, 0), P(0, 1), F(2)],
         [P(0, 0), P(1, 0), P(1, 1)],
@@ -174,7 +152,7 @@ fn sheet_of_nine_points_of_a_grid(rt: HostRuntime) -> Result<(), Fail> {
         [P(2, 1), F(0), P(2, 2)],
         [P(2, 2), F(0), F(1)],
     ];
-    check(&rt, rt.alloc(), &ats, &[], &sheet)
+    check(&rt, rt.alloc(), &GRID, &[], &sheet)
 }
 
 #[test]

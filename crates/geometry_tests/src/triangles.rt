@@ -1,6 +1,6 @@
 //! Triangulations worked out by hand. Places are written easting first.
 
-use crate::fixtures::{At, Corners, Joined, facets as facets_at, pieces, place, places};
+use crate::fixtures::{At, Corners, GRID, Joined, facets as facets_at, pieces, place, places};
 use ground_model::Place;
 use slow_tri::{FacetList, facets};
 use std::alloc::{AllocError, Global};
@@ -107,17 +107,6 @@ fn hexagon_with_its_centre_has_six_facets(rt: HostRuntime) -> Result<(), Fail> {
 
 #[test]
 fn each_square_of_a_grid_keeps_its_least_diagonal(rt: HostRuntime) -> Result<(), Fail> {
-    let ats = [
-        (0, 0),
-        (0, 1),
-        (0, 2),
-        (1, 0),
-        (1, 1),
-        (1, 2),
-        (2, 0),
-        (2, 1),
-        (2, 2),
-    ];
     let want = [
         ([(0, 0), (1, 0), (1, 1)], [0, 0, 0]),
         ([(0, 0), (1, 1), (0, 1)], [0, 0, 0]),
@@ -128,7 +117,7 @@ fn each_square_of_a_grid_keeps_its_least_diagonal(rt: HostRuntime) -> Result<(),
         ([(1, 1), (2, 1), (2, 2)], [0, 0, 0]),
         ([(1, 1), (2, 2), (1, 2)], [0, 0, 0]),
     ];
-    check(&rt, rt.alloc(), &ats, &[], &want)?;
+    check(&rt, rt.alloc(), &GRID, &[], &want)?;
     let across = [((0, 2), (1, 1), 1), ((1, 1), (2, 0), 1)];
     let turned = [
         ([(0, 0), (1, 0), (1, 1)], [0, 0, 0]),
@@ -140,7 +129,7 @@ fn each_square_of_a_grid_keeps_its_least_diagonal(rt: HostRuntime) -> Result<(),
         ([(1, 1), (2, 1), (2, 2)], [0, 0, 0]),
         ([(1, 1), (2, 2), (1, 2)], [0, 0, 0]),
     ];
-    Ok(check(&rt, rt.alloc(), &ats, &across, &turned)?)
+    Ok(check(&rt, rt.alloc(), &GRID, &across, &turned)?)
 }
 
 #[test]

@@ -22,8 +22,3 @@ pub use sides::{exact_side, orientation};
 pub use sign::Sign;
 pub use triangle::{holds, triangle_holds};
 pub use wall::walled;
-
-#[cfg(test)]
-mod far_tests;
-#[cfg(test)]
-mod tests;

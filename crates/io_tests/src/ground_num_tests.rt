@@ -1,6 +1,6 @@
 //! Each public call once on its happy path, and the limits.
 
-use crate::{
+use ground_num::{
     Name, NameFault, NumFault, PLACE_LIMIT, Thousandths, put_decimal, put_volume, read_decimal,
     shift,
 };

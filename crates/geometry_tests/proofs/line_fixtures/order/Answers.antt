@@ -5,7 +5,7 @@ use Rattle.std.proofs.lemmas.List.Kept.{IsStrictlySortedBy-dedup}
 use Rattle.ground_model.specs.Place.{Coords, place_cmp, is_same}
 use Rattle.ground_model.proofs.Contents.{places_total}
 use Rattle.line_table.proofs.Rows.{ties}
-use Rattle.geometry_tests.proofs.lines.order.Goals as goal
+use Rattle.geometry_tests.proofs.line_fixtures.order.Goals as goal
 
 pub returns : goal.returns
 returns c =

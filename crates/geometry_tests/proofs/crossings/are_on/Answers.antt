@@ -7,7 +7,7 @@ use Rattle.std.proofs.lemmas.List.Elements.{All-map}
 use Rattle.std.proofs.lemmas.List.Sums.{AllPass-from_list_all}
 use Rattle.ground_model.specs.Line.{Line}
 use Rattle.ground_model.specs.Crossings.{is_on_points}
-use Rattle.geometry_tests.proofs.lines.are_on.Goals as goal
+use Rattle.geometry_tests.proofs.crossings.are_on.Goals as goal
 
 pub returns : goal.returns
 returns c = λ yes.

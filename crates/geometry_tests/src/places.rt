@@ -1,25 +1,17 @@
-//! Cases worked out by hand. Places are written easting first.
+//! The predicates over places, by cases worked out by hand. Places are written easting first.
 
 ghost use Rattle.std.specs.Prelude.{◌≡◌};
 ghost use Rattle.ground_model.specs.Side.{is_left};
 
-use crate::{
+use crate::fixtures::{At, L, place};
+use ground_model::{Corner, Facet, Place};
+use predicates::{
     Sign, crosses, exact_side, holds, in_circle, is_inside, orientation, side, triangle_holds,
     walled,
 };
-use ground_model::{Corner, Facet, Place};
 use std::process::Abort;
 
-type At = (i32, i32);
-
-/// The farthest coordinate.
-const L: i32 = 536_870_912;
-
-fn place(rt: &impl Abort, at: At) -> Place {
-    Place::new(at.0, at.1).expect(rt, "a place")
-}
-
-#[tactic(auto, using(crate::proofs::Orders::order_sign))]
+#[tactic(auto, using(predicates::proofs::Orders::order_sign))]
 fn turns_left(a: Place, b: Place, c: Place) -> bool
     ensures { result ≡ is_left a b c }
 {

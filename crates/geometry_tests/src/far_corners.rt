@@ -1,11 +1,12 @@
 //! Far corners against corners at a great finite distance and height, which decide alike where 128 bits hold them.
 
-ghost use Rattle.std.specs.Prelude.{◌≡◌, ◌<◌, IsTrue};
-ghost use Rattle.ground_model.specs.Side.{is_left};
-ghost use Rattle.ground_model.specs.Corner.{corner_at, is_corner};
+ghost use Rattle.std.specs.Prelude.{◌<◌, IsTrue};
+ghost use Rattle.ground_model.specs.Corner.{is_corner};
 
-use crate::{Sign, in_circle, side};
-use ground_model::{Corner, Place};
+use crate::fixtures::{place, turns_left};
+use ground_model::Corner;
+use predicates::{Sign, in_circle, side};
+use std::cmp::Ordering;
 use std::process::Abort;
 
 /// A corner, and where it stands: a far one at a finite distance.
@@ -19,7 +20,7 @@ struct Stand {
 }
 
 fn at(rt: &impl Abort, e: i32, n: i32) -> Stand {
-    let corner = Corner::At(Place::new(e, n).expect(rt, "a place"));
+    let corner = Corner::At(place(rt, (e, n)));
     let (e, n) = (i128::from(e), i128::from(n));
     let squares = e.checked_mul(e).zip(n.checked_mul(n));
     let (x, y) = squares.expect(rt, "squares");
@@ -71,17 +72,11 @@ fn finite_depth(a: &Stand, b: &Stand, c: &Stand, d: &Stand) -> Option<i128> {
 }
 
 fn finite_sign(x: i128) -> Sign {
-    Sign::of(x.cmp(&0))
-}
-
-#[tactic(auto, using(crate::proofs::Orders::order_sign))]
-fn turns_left(a: &Corner, b: &Corner, c: &Corner) -> bool
-    requires a { IsTrue (is_corner a.now) }
-    requires b { IsTrue (is_corner b.now) }
-    requires c { IsTrue (is_corner c.now) }
-    ensures { result ≡ is_left (corner_at a.now) (corner_at b.now) (corner_at c.now) }
-{
-    side(*a, *b, *c).is_positive()
+    match x.cmp(&0) {
+        Ordering::Less => Sign::Negative,
+        Ordering::Equal => Sign::Zero,
+        Ordering::Greater => Sign::Positive,
+    }
 }
 
 fn compare_circle(rt: &impl Abort, a: &Stand, b: &Stand, c: &Stand, d: &Stand) {
