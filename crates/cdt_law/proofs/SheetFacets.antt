@@ -3,7 +3,7 @@
 use Rattle.std.proofs.Common.{◌≡◌, ℕ, refl, sym, ap, subst, ◌∙◌, List, Bool, true, false, Some}
 use Rattle.std.specs.Prelude.{◌&&◌, nat_eq, if◌then◌else◌}
 use Rattle.std.specs.List.{All, list_any}
-use Rattle.std.proofs.lemmas.Bool.{and_parts, and_from, eqb-true, eq-eqb}
+use Rattle.std.proofs.lemmas.Bool.{and_parts, and_from, and_left, and_right, eqb-true, eq-eqb}
 use Rattle.ground_model.specs.declared.corner.Corner.{Corner}
 use Rattle.ground_model.specs.declared.corner.Corner.TheVariants.{At, Far}
 use Rattle.ground_model.specs.declared.facet.Facet.{Facet}
@@ -97,15 +97,6 @@ other-way p q differ e = by (is_before q p) refl
 pub turned-first : (net : Net) (p q r : Coords) → (p ≡ q → ⊥) → (q ≡ r → ⊥) → (r ≡ p → ⊥) → TurnedFirst net p q r
 turned-first net p q r pq qr rp = by (is_before p q) (is_before p r) (is_before q r) refl refl refl
   where
-    no : (x y : Bool) → x ≡ false → (x && y) ≡ false
-    no false y e = refl
-    no true y e = cc
-
-    no_second : (x y : Bool) → y ≡ false → (x && y) ≡ false
-    no_second true false e = refl
-    no_second false y e = refl
-    no_second x true e = cc
-
     is_first : is_before p q ≡ true → is_before p r ≡ true → TurnedFirst net p q r
     is_first e f =
         let t = and_from (is_before p q) (is_before p r) e f in
@@ -114,7 +105,7 @@ turned-first net p q r pq qr rp = by (is_before p q) (is_before p r) (is_before 
     is_second : is_before p q ≡ false → is_before q r ≡ true → TurnedFirst net p q r
     is_second e f =
         let qp = other-way p q pq e in
-        record { a = q; b = r; c = p; turn = Once; least = and_from (is_before q r) (is_before q p) f qp; is = pick-second (is_before p q && is_before p r) (is_before q p && is_before q r) (facet_on net p q r) (facet_on net q r p) (facet_on net r p q) (no (is_before p q) (is_before p r) e) (and_from (is_before q p) (is_before q r) qp f) }
+        record { a = q; b = r; c = p; turn = Once; least = and_from (is_before q r) (is_before q p) f qp; is = pick-second (is_before p q && is_before p r) (is_before q p && is_before q r) (facet_on net p q r) (facet_on net q r p) (facet_on net r p q) (and_left (is_before p q) (is_before p r) e) (and_from (is_before q p) (is_before q r) qp f) }
 
     is_third : (is_before p q && is_before p r) ≡ false → (is_before q p && is_before q r) ≡ false → is_before r p ≡ true → is_before r q ≡ true → TurnedFirst net p q r
     is_third i j e f =
@@ -124,11 +115,11 @@ turned-first net p q r pq qr rp = by (is_before p q) (is_before p r) (is_before 
     by true true v e f g = is_first e f
     by true false v e f g =
         let rp' = other-way p r (λ k. rp (sym k)) f in
-        is_third (no_second (is_before p q) (is_before p r) f) (no (is_before q p) (is_before q r) (not_after p q e)) rp' (before_trans r p q rp' e)
+        is_third (and_right (is_before p q) (is_before p r) f) (and_left (is_before q p) (is_before q r) (not_after p q e)) rp' (before_trans r p q rp' e)
     by false u true e f g = is_second e g
     by false u false e f g =
         let rq = other-way q r qr g in
-        is_third (no (is_before p q) (is_before p r) e) (no_second (is_before q p) (is_before q r) g) (before_trans r q p rq (other-way p q pq e)) rq
+        is_third (and_left (is_before p q) (is_before p r) e) (and_right (is_before q p) (is_before q r) g) (before_trans r q p rq (other-way p q pq e)) rq
 
 -- ---- the facets of a sheet
 -- the three places of a triangle
@@ -199,23 +190,14 @@ turn-facet net t x y z a b c turn ea eb ec least = by t x y z turn ea eb ec
     before : (is_before a b ≡ true) × (is_before a c ≡ true)
     before = and_parts (is_before a b) (is_before a c) least
 
-    no : (x y : Bool) → x ≡ false → (x && y) ≡ false
-    no false y e = refl
-    no true y e = cc
-
-    no_second : (x y : Bool) → y ≡ false → (x && y) ≡ false
-    no_second true false e = refl
-    no_second false y e = refl
-    no_second x true e = cc
-
     still : facet_turned net a b c ≡ facet_on net a b c
     still = pick-first (is_before a b && is_before a c) (is_before b a && is_before b c) (facet_on net a b c) (facet_on net b c a) (facet_on net c a b) least
 
     once : facet_turned net c a b ≡ facet_on net a b c
-    once = pick-second (is_before c a && is_before c b) (is_before a c && is_before a b) (facet_on net c a b) (facet_on net a b c) (facet_on net b c a) (no (is_before c a) (is_before c b) (not_after a c before.1)) (and_from (is_before a c) (is_before a b) before.1 before.0)
+    once = pick-second (is_before c a && is_before c b) (is_before a c && is_before a b) (facet_on net c a b) (facet_on net a b c) (facet_on net b c a) (and_left (is_before c a) (is_before c b) (not_after a c before.1)) (and_from (is_before a c) (is_before a b) before.1 before.0)
 
     twice : facet_turned net b c a ≡ facet_on net a b c
-    twice = pick-third (is_before b c && is_before b a) (is_before c b && is_before c a) (facet_on net b c a) (facet_on net c a b) (facet_on net a b c) (no_second (is_before b c) (is_before b a) (not_after a b before.0)) (no_second (is_before c b) (is_before c a) (not_after a c before.1))
+    twice = pick-third (is_before b c && is_before b a) (is_before c b && is_before c a) (facet_on net b c a) (facet_on net c a b) (facet_on net a b c) (and_right (is_before b c) (is_before b a) (not_after a b before.0)) (and_right (is_before c b) (is_before c a) (not_after a c before.1))
 
     by : (t : Triangle) (x y z : Corner) → IsTurn t x y z → x ≡ At a → y ≡ At b → z ≡ At c → facet_by net t.a t.b t.c ≡ Some (facet_on net a b c)
     by t x y z Still ea eb ec = (λ i. facet_by net (ea i) (eb i) (ec i)) ∙ ap Some still

@@ -5,6 +5,7 @@ use Rattle.std.specs.declared.cmp.Ordering.{Ordering}
 use Rattle.std.specs.declared.cmp.Ordering.TheVariants.{Less, Equal, Greater}
 use Rattle.std.specs.Ordering.{is_lt, is_gt, int_cmp, ordering_then}
 use Rattle.std.proofs.lemmas.Int.{ints}
+use Rattle.std.proofs.lemmas.Bool.{and_left, and_right}
 use Rattle.std.proofs.lemmas.Bool.Decides.{Decides-int_eq}
 use Rattle.ground_model.specs.Place.{Coords, ArePlaces, is_before, is_same}
 use Rattle.ground_model.specs.Side.{side, orientation, is_left, is_right}
@@ -54,14 +55,6 @@ none false true u x y z e f g h = f
 none false false true x y z e f g h = g
 none false false false x y z e f g h = h
 
-and_false : (x y : Bool) → y ≡ false → (x && y) ≡ false
-and_false true y e = e
-and_false false y e = refl
-
-false_and : (x y : Bool) → x ≡ false → (x && y) ≡ false
-false_and true y e = cc
-false_and false y e = refl
-
 first_of : (x y z : Bool) → x ≡ false → (x && y && z) ≡ false
 first_of true y z e = cc
 first_of false y z e = refl
@@ -79,22 +72,22 @@ last_of false y z e = refl
 at_a : (a b c : Coords) → is_inside_at_tie a b c a ≡ false
 at_a a b c = none (is_first a a b c) (is_first a b c a) (is_first b c a a) (is_right b c a) (is_right c a a) (is_right a b a)
     (first_of (is_before a a) (is_before a b) (is_before a c) (irreflexive a))
-    (false_and (is_first a b c a) (is_right b c a) (last_of (is_before a b) (is_before a c) (is_before a a) (irreflexive a)))
-    (and_false (is_first b c a a) (is_right c a a) (last_two a c))
+    (and_left (is_first a b c a) (is_right b c a) (last_of (is_before a b) (is_before a c) (is_before a a) (irreflexive a)))
+    (and_right (is_first b c a a) (is_right c a a) (last_two a c))
     (ends a b)
 
 at_b : (a b c : Coords) → is_inside_at_tie a b c b ≡ false
 at_b a b c = none (is_first b a b c) (is_first a b c b) (is_first b c a b) (is_right b c b) (is_right c a b) (is_right a b b)
     (second_of (is_before b a) (is_before b b) (is_before b c) (irreflexive b))
-    (and_false (is_first a b c b) (is_right b c b) (ends b c))
-    (false_and (is_first b c a b) (is_right c a b) (last_of (is_before b c) (is_before b a) (is_before b b) (irreflexive b)))
+    (and_right (is_first a b c b) (is_right b c b) (ends b c))
+    (and_left (is_first b c a b) (is_right c a b) (last_of (is_before b c) (is_before b a) (is_before b b) (irreflexive b)))
     (last_two b a)
 
 at_c : (a b c : Coords) → is_right a b c ≡ false → is_inside_at_tie a b c c ≡ false
 at_c a b c h = none (is_first c a b c) (is_first a b c c) (is_first b c a c) (is_right b c c) (is_right c a c) (is_right a b c)
     (last_of (is_before c a) (is_before c b) (is_before c c) (irreflexive c))
-    (and_false (is_first a b c c) (is_right b c c) (last_two c b))
-    (and_false (is_first b c a c) (is_right c a c) (ends c a))
+    (and_right (is_first a b c c) (is_right b c c) (last_two c b))
+    (and_right (is_first b c a c) (is_right c a c) (ends c a))
     h
 
 -- ---- anywhere

@@ -1,6 +1,6 @@
 -- The far corners lie above every plane of three places.
-use Rattle.std.proofs.Common.{◌≡◌, ℕ, zero, suc, ◌*◌, ◌^◌, ◌≤◌, ◌<◌, refl, ap, arith}
-use Rattle.std.specs.Prelude.{ℤ, pos, negsuc, ◌+ℤ◌, ◌-ℤ◌, ◌*ℤ◌, ◌<ℤ◌, ◌≤ℤ◌, unsigned_abs}
+use Rattle.std.proofs.Common.{◌≡◌, ℕ, ◌*◌, ◌^◌, ◌≤◌, ◌<◌, refl, arith}
+use Rattle.std.specs.Prelude.{ℤ, pos, ◌+ℤ◌, ◌-ℤ◌, ◌*ℤ◌, ◌<ℤ◌, ◌≤ℤ◌, unsigned_abs}
 use Rattle.std.proofs.lemmas.Int.{ints}
 use Rattle.ground_model.specs.declared.corner.Corner.{Corner}
 use Rattle.ground_model.specs.declared.corner.Corner.TheVariants.{At, Far}
@@ -11,6 +11,7 @@ use Rattle.ground_model.specs.Corner.{corner_side, far_height}
 use Rattle.ground_model.proofs.ZOrder.{size-mul}
 use Rattle.ground_model.proofs.Lifted.{top_is}
 use Rattle.predicates.specs.Depth.{depth}
+use Rattle.predicates.proofs.Signs.{mul-at-least}
 use Rattle.predicates.proofs.FarNumbers.{outgrows, outweighed, height0_is, height1_is, height2_is}
 use Rattle.predicates.proofs.Valid.{IsValid, Place, Far0, Far1, Far2}
 use Rattle.predicates.proofs.Heights.{corner_height, deep}
@@ -25,16 +26,8 @@ far-above a b c f big ha hb hc vf turned high le =
     (size-mul (height a) (corner_side (At b) (At c) f) (base ^ (2 * top)) most (place-height a ha) (side-size (At b) (At c) f (Place b hb) (Place c hc) vf))
     (size-mul (height b) (corner_side (At c) (At a) f) (base ^ (2 * top)) most (place-height b hb) (side-size (At c) (At a) f (Place c hc) (Place a ha) vf))
     (size-mul (height c) (corner_side (At a) (At b) f) (base ^ (2 * top)) most (place-height c hc) (side-size (At a) (At b) f (Place a ha) (Place b hb) vf))
-    (large (corner_height f) (side a b c) big high turned) (outweighed (2 * top) (8 * top) (omega (arith, top_is))) le
+    (mul-at-least (corner_height f) (side a b c) big high turned) (outweighed (2 * top) (8 * top) (omega (arith, top_is))) le
   where
-    large : (h x : ℤ) (big : ℕ) → h ≡ pos big → pos 0 <ℤ x → pos big ≤ℤ (h *ℤ x)
-    large h (pos zero) big e k = absurd (omega (arith, ints, k))
-    large h (pos (suc n)) big e k = by (h *ℤ pos (suc n)) (ap (λ t. t *ℤ pos (suc n)) e)
-      where
-        by : (z : ℤ) → z ≡ pos big *ℤ pos (suc n) → pos big ≤ℤ z
-        by z e = omega (arith, ints, e)
-    large h (negsuc n) big e k = absurd (omega (arith, ints, k))
-
     sum : (p q s t : ℤ) (big n w : ℕ) → unsigned_abs p ≤ n → unsigned_abs q ≤ n → unsigned_abs s ≤ n → pos big ≤ℤ t → 3 * n < w → w ≤ big → (p +ℤ q +ℤ s -ℤ t) <ℤ pos 0
     sum p q s t big n w h i j k lt le = omega (arith, ints, h, i, j, k, lt, le)
 

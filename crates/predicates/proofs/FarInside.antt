@@ -1,5 +1,5 @@
 -- A circle with far corners: the highest of the four decides what is inside.
-use Rattle.std.proofs.Common.{◌≡◌, ℕ, zero, suc, ◌*◌, ◌≤◌, ◌<◌, ◌⊎◌, inl, inr, refl, sym, ap, subst, ◌∙◌, arith, [], ◌∷◌, Bool, true, false, ◌||◌}
+use Rattle.std.proofs.Common.{◌≡◌, ℕ, ◌*◌, ◌≤◌, ◌<◌, ◌⊎◌, inl, inr, refl, sym, ap, subst, ◌∙◌, arith, [], ◌∷◌, Bool, true, false, ◌||◌}
 use Rattle.std.specs.Prelude.{ℤ, pos, negsuc, neg_ℤ, ◌+ℤ◌, ◌-ℤ◌, ◌*ℤ◌, ◌<ℤ◌, ◌≤ℤ◌, unsigned_abs, IsTrue}
 use Rattle.std.specs.Ordering.{int_cmp, is_gt}
 use Rattle.std.proofs.lemmas.Int.{ints, by_lt_z}
@@ -17,7 +17,7 @@ use Rattle.ground_model.proofs.Ties.{turns_of_left}
 use Rattle.predicates.specs.Depth.{depth}
 use Rattle.predicates.specs.Far.{IsKnown, is_far, rank, is_between, is_inside_beside}
 use Rattle.predicates.proofs.Compared.{by_sign, cmp_less, cmp_greater, cmp_equal}
-use Rattle.predicates.proofs.Signs.{level-down, never-level, positive-along, weaken-neg}
+use Rattle.predicates.proofs.Signs.{level-down, mul-at-least, never-level, positive-along, weaken-neg}
 use Rattle.predicates.proofs.FlatSides.{flat_ab, flat_bc, flat_ca}
 use Rattle.predicates.proofs.Valid.{IsValid, Place}
 use Rattle.predicates.proofs.FarOrientations.{valid-of, Flat, Three, Ends, AtEnd, flat}
@@ -37,14 +37,6 @@ record Circle (a b c d : Corner) : Type 0 where
   c_in : IsValid c
   d_in : IsValid d
   turned : pos 0 <ℤ corner_side a b c
-
-large : (h x : ℤ) (big : ℕ) → h ≡ pos big → pos 0 <ℤ x → pos big ≤ℤ (h *ℤ x)
-large h (pos zero) big e k = absurd (omega (arith, ints, k))
-large h (pos (suc n)) big e k = by (h *ℤ pos (suc n)) (ap (λ t. t *ℤ pos (suc n)) e)
-  where
-    by : (z : ℤ) → z ≡ pos big *ℤ pos (suc n) → pos big ≤ℤ z
-    by z e = omega (arith, ints, e)
-large h (negsuc n) big e k = absurd (omega (arith, ints, k))
 
 low : (h x : ℤ) (big : ℕ) → h ≡ pos big → x <ℤ pos 0 → (h *ℤ x) ≤ℤ neg_ℤ (pos big)
 low h (pos n) big e k = absurd (omega (arith, ints, k))
@@ -69,7 +61,7 @@ unfolding depth
 deep_left a b c d k f left =
     let o = highest a k.a_in f.far in
     sum (corner_height a *ℤ corner_side b c d) (corner_height b *ℤ corner_side c a d) (corner_height c *ℤ corner_side a b d) (corner_height d *ℤ corner_side a b c) o.big (o.rest * most)
-    (large (corner_height a) (corner_side b c d) o.big o.high left)
+    (mul-at-least (corner_height a) (corner_side b c d) o.big o.high left)
     (small a b (corner_side c a d) o k.b_in f.over_b (side-size c a d k.c_in k.a_in k.d_in))
     (small a c (corner_side a b d) o k.c_in f.over_c (side-size a b d k.a_in k.b_in k.d_in))
     (small a d (corner_side a b c) o k.d_in f.over_d (side-size a b c k.a_in k.b_in k.c_in)) o.outweighs
@@ -105,7 +97,7 @@ shallow_last a b c d k f =
     (small d a (corner_side b c d) o k.a_in f.over_a (side-size b c d k.b_in k.c_in k.d_in))
     (small d b (corner_side c a d) o k.b_in f.over_b (side-size c a d k.c_in k.a_in k.d_in))
     (small d c (corner_side a b d) o k.c_in f.over_c (side-size a b d k.a_in k.b_in k.d_in))
-    (large (corner_height d) (corner_side a b c) o.big o.high k.turned) o.outweighs
+    (mul-at-least (corner_height d) (corner_side a b c) o.big o.high k.turned) o.outweighs
   where
     sum : (p q s t : ℤ) (big n : ℕ) → unsigned_abs p ≤ n → unsigned_abs q ≤ n → unsigned_abs s ≤ n → pos big ≤ℤ t → 3 * n < big → (p +ℤ q +ℤ s -ℤ t) <ℤ pos 0
     sum p q s t big n h i j k lt = omega (arith, ints, h, i, j, k, lt)

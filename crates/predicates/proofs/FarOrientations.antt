@@ -15,7 +15,7 @@ use Rattle.ground_model.proofs.ZOrder.{size-mul, size-sub, outweighs, outweighs_
 use Rattle.ground_model.proofs.Circle.{side-turned, same_coords}
 use Rattle.predicates.specs.Far.{IsKnown, side_toward, side_around, side_with, is_between}
 use Rattle.predicates.proofs.Compared.{IsSigned, IsSignedFirst, cmp_signed, cmp_first, cmp_less, cmp_greater, cmp_equal, by_sign}
-use Rattle.predicates.proofs.Signs.{positive-along, negative-neg, never-level, never-flat}
+use Rattle.predicates.proofs.Signs.{positive-along, negative-neg, never-both, never-level, never-flat}
 use Rattle.predicates.proofs.FlatSides.{flat_ab, flat_bc, flat_ca, side-back}
 use Rattle.predicates.proofs.FarSides.{f0, f1, f2, far-side01, far-side12, far-side20, far-turned, far-large}
 use Rattle.predicates.proofs.Valid.{IsValid, Place, Far0, Far1, Far2}
@@ -25,22 +25,22 @@ use Rattle.predicates.proofs.Valid.{IsValid, Place, Far0, Far1, Far2}
 abbrev pub toward : Coords → Coords → Coords → ℤ
 toward p q d = (q.e -ℤ p.e) *ℤ d.n -ℤ (q.n -ℤ p.n) *ℤ d.e
 
--- the part of the side that does not grow with the far corner
-abbrev near : Coords → Coords → ℤ
-near p q = (q.e -ℤ p.e) *ℤ p.n -ℤ (q.n -ℤ p.n) *ℤ p.e
+-- how far the way from p to q turns about the origin, as seen at r: the part of a side that does not grow with the far corner
+abbrev near : Coords → Coords → Coords → ℤ
+near p q r = (q.e -ℤ p.e) *ℤ r.n -ℤ (q.n -ℤ p.n) *ℤ r.e
 
-side-toward : (m : ℤ) (p q d : Coords) → side p q (record { e = m *ℤ d.e; n = m *ℤ d.n }) ≡ toward p q d *ℤ m -ℤ near p q
+side-toward : (m : ℤ) (p q d : Coords) → side p q (record { e = m *ℤ d.e; n = m *ℤ d.n }) ≡ toward p q d *ℤ m -ℤ near p q p
 unfolding side
 side-toward m p q d =
     ring (p.e ∷ p.n ∷ q.e ∷ q.n ∷ d.e ∷ d.n ∷ m ∷ [])
     ((var 2 ⊖ var 0) ⊗ (var 6 ⊗ var 5 ⊖ var 1) ⊖ (var 3 ⊖ var 1) ⊗ (var 6 ⊗ var 4 ⊖ var 0))
     (((var 2 ⊖ var 0) ⊗ var 5 ⊖ (var 3 ⊖ var 1) ⊗ var 4) ⊗ var 6 ⊖ ((var 2 ⊖ var 0) ⊗ var 1 ⊖ (var 3 ⊖ var 1) ⊗ var 0)) refl
 
-near-small : (p q : Coords) → IsPlace p → IsPlace q → unsigned_abs (near p q) < far
-near-small p q h k =
-    small ((q.e -ℤ p.e) *ℤ p.n) ((q.n -ℤ p.n) *ℤ p.e) far far-large
-    (size-mul (q.e -ℤ p.e) p.n (2 ^ 30) (2 ^ 29) (omega (arith, ints, h.west, h.east, k.west, k.east)) (omega (arith, ints, h.south, h.north)))
-    (size-mul (q.n -ℤ p.n) p.e (2 ^ 30) (2 ^ 29) (omega (arith, ints, h.south, h.north, k.south, k.north)) (omega (arith, ints, h.west, h.east)))
+near-small : (p q r : Coords) → IsPlace p → IsPlace q → IsPlace r → unsigned_abs (near p q r) < far
+near-small p q r h k l =
+    small ((q.e -ℤ p.e) *ℤ r.n) ((q.n -ℤ p.n) *ℤ r.e) far far-large
+    (size-mul (q.e -ℤ p.e) r.n (2 ^ 30) (2 ^ 29) (omega (arith, ints, h.west, h.east, k.west, k.east)) (omega (arith, ints, l.south, l.north)))
+    (size-mul (q.n -ℤ p.n) r.e (2 ^ 30) (2 ^ 29) (omega (arith, ints, h.south, h.north, k.south, k.north)) (omega (arith, ints, l.west, l.east)))
   where
     small : (x y : ℤ) (f : ℕ) → 2 ^ 64 ≤ f → unsigned_abs x ≤ 2 ^ 59 → unsigned_abs y ≤ 2 ^ 59 → unsigned_abs (x -ℤ y) < f
     small x y f l h k = omega (arith, size-sub x y, l, h, k)
@@ -48,8 +48,8 @@ near-small p q h k =
 -- a far corner lies on the side of its direction
 by_direction : (p q d : Coords) → IsPlace p → IsPlace q → (toward p q d ≡ pos 0 → p ≡ q) → IsSigned (side p q (record { e = pos far *ℤ d.e; n = pos far *ℤ d.n })) (toward p q d)
 by_direction p q d h k flat = record {
-  left = λ gt. above _ (toward p q d *ℤ pos far) (near p q) (side-toward (pos far) p q d) (outweighs (toward p q d) (near p q) far (near-small p q h k) gt);
-  right = λ lt. below _ (toward p q d *ℤ pos far) (near p q) (side-toward (pos far) p q d) (outweighs_below (toward p q d) (near p q) far (near-small p q h k) lt);
+  left = λ gt. above _ (toward p q d *ℤ pos far) (near p q p) (side-toward (pos far) p q d) (outweighs (toward p q d) (near p q p) far (near-small p q p h k h) gt);
+  right = λ lt. below _ (toward p q d *ℤ pos far) (near p q p) (side-toward (pos far) p q d) (outweighs_below (toward p q d) (near p q p) far (near-small p q p h k h) lt);
   flat = λ e. flat_ab p q (record { e = pos far *ℤ d.e; n = pos far *ℤ d.n }) (flat e);
 }
   where
@@ -99,29 +99,20 @@ table2 e n w h is = record {
 equal : (s t : ℤ) → t -ℤ s ≡ pos 0 → s ≡ t
 equal s t e = omega (arith, ints, e)
 
-slanted0 : (p q : Coords) → IsPlace p → IsPlace q → toward p q (direction 0) ≡ pos 0 → p ≡ q
-slanted0 p q h k z =
-    let both = zeros (q.e -ℤ p.e) (q.n -ℤ p.n) (way p q h k) z in
+slanted : (k : ℕ) → ((e n : ℤ) → IsWay e n → e *ℤ (direction k).n -ℤ n *ℤ (direction k).e ≡ pos 0 → (e ≡ pos 0) × (n ≡ pos 0))
+    → (p q : Coords) → IsPlace p → IsPlace q → toward p q (direction k) ≡ pos 0 → p ≡ q
+slanted k zeros p q h i z =
+    let both = zeros (q.e -ℤ p.e) (q.n -ℤ p.n) (way p q h i) z in
     same_coords p q (equal p.e q.e both.0) (equal p.n q.n both.1)
-  where
-    zeros : (e n : ℤ) → IsWay e n → e *ℤ (direction 0).n -ℤ n *ℤ (direction 0).e ≡ pos 0 → (e ≡ pos 0) × (n ≡ pos 0)
-    zeros e n h z = (omega (arith, ints, h.west, h.east, z), omega (arith, ints, h.west, h.east, z))
+
+slanted0 : (p q : Coords) → IsPlace p → IsPlace q → toward p q (direction 0) ≡ pos 0 → p ≡ q
+slanted0 = slanted 0 (λ e n h z. (omega (arith, ints, h.west, h.east, z), omega (arith, ints, h.west, h.east, z)))
 
 slanted1 : (p q : Coords) → IsPlace p → IsPlace q → toward p q (direction 1) ≡ pos 0 → p ≡ q
-slanted1 p q h k z =
-    let both = zeros (q.e -ℤ p.e) (q.n -ℤ p.n) (way p q h k) z in
-    same_coords p q (equal p.e q.e both.0) (equal p.n q.n both.1)
-  where
-    zeros : (e n : ℤ) → IsWay e n → e *ℤ (direction 1).n -ℤ n *ℤ (direction 1).e ≡ pos 0 → (e ≡ pos 0) × (n ≡ pos 0)
-    zeros e n h z = (omega (arith, ints, h.west, h.east, z), omega (arith, ints, h.west, h.east, z))
+slanted1 = slanted 1 (λ e n h z. (omega (arith, ints, h.west, h.east, z), omega (arith, ints, h.west, h.east, z)))
 
 slanted2 : (p q : Coords) → IsPlace p → IsPlace q → toward p q (direction 2) ≡ pos 0 → p ≡ q
-slanted2 p q h k z =
-    let both = zeros (q.e -ℤ p.e) (q.n -ℤ p.n) (way p q h k) z in
-    same_coords p q (equal p.e q.e both.0) (equal p.n q.n both.1)
-  where
-    zeros : (e n : ℤ) → IsWay e n → e *ℤ (direction 2).n -ℤ n *ℤ (direction 2).e ≡ pos 0 → (e ≡ pos 0) × (n ≡ pos 0)
-    zeros e n h z = (omega (arith, ints, h.south, h.north, z), omega (arith, ints, h.south, h.north, z))
+slanted2 = slanted 2 (λ e n h z. (omega (arith, ints, h.south, h.north, z), omega (arith, ints, h.south, h.north, z)))
 
 straight : {P : Type 0} (s w : ℤ) → IsSigned s w → s ≡ pos 0 → (w ≡ pos 0 → P) → P
 straight s w h e flat = by_sign w (λ lt. absurd (never-flat s (h.right lt) e)) (λ gt. absurd (never-level s (h.left gt) e)) flat
@@ -145,6 +136,32 @@ toward-flat p q zero h k lt e = straight (side p q f0) (toward p q (direction 0)
 toward-flat p q (suc zero) h k lt e = straight (side p q f1) (toward p q (direction 1)) (by_direction p q (direction 1) h k (slanted1 p q h k)) e (slanted1 p q h k)
 toward-flat p q (suc (suc zero)) h k lt e = straight (side p q f2) (toward p q (direction 2)) (by_direction p q (direction 2) h k (slanted2 p q h k)) e (slanted2 p q h k)
 toward-flat p q (suc (suc (suc k))) h i lt e = absurd (omega (arith, lt))
+
+-- a far corner to the left of the way from p to q lies in a direction to its left
+positive-sign : (s w : ℤ) → IsSigned s w → pos 0 <ℤ s → pos 0 <ℤ w
+positive-sign s w h gt = by_sign w (λ lt. absurd (never-both s gt (h.right lt))) (λ left. left) (λ e. absurd (never-level s gt (h.flat e)))
+
+toward-left : (p q : Coords) (k : ℕ) → IsPlace p → IsPlace q → k < 3 → pos 0 <ℤ side p q (corner_at (Far k)) → pos 0 <ℤ toward p q (direction k)
+toward-left p q zero h k lt = positive-sign (side p q f0) (toward p q (direction 0)) (by_direction p q (direction 0) h k (slanted0 p q h k))
+toward-left p q (suc zero) h k lt = positive-sign (side p q f1) (toward p q (direction 1)) (by_direction p q (direction 1) h k (slanted1 p q h k))
+toward-left p q (suc (suc zero)) h k lt = positive-sign (side p q f2) (toward p q (direction 2)) (by_direction p q (direction 2) h k (slanted2 p q h k))
+toward-left p q (suc (suc (suc k))) h i lt = absurd (omega (arith, lt))
+
+-- it lies farther to the left than any place
+farther_by : (m : ℤ) (p q r d : Coords) → side p q (record { e = m *ℤ d.e; n = m *ℤ d.n }) -ℤ side p q r ≡ toward p q d *ℤ m -ℤ near p q r
+unfolding side
+farther_by m p q r d =
+    ring (p.e ∷ p.n ∷ q.e ∷ q.n ∷ d.e ∷ d.n ∷ m ∷ r.e ∷ r.n ∷ [])
+    (((var 2 ⊖ var 0) ⊗ (var 6 ⊗ var 5 ⊖ var 1) ⊖ (var 3 ⊖ var 1) ⊗ (var 6 ⊗ var 4 ⊖ var 0)) ⊖ ((var 2 ⊖ var 0) ⊗ (var 8 ⊖ var 1) ⊖ (var 3 ⊖ var 1) ⊗ (var 7 ⊖ var 0)))
+    (((var 2 ⊖ var 0) ⊗ var 5 ⊖ (var 3 ⊖ var 1) ⊗ var 4) ⊗ var 6 ⊖ ((var 2 ⊖ var 0) ⊗ var 8 ⊖ (var 3 ⊖ var 1) ⊗ var 7)) refl
+
+pub farther : (p q r : Coords) (k : ℕ) → IsPlace p → IsPlace q → IsPlace r → k < 3 → pos 0 <ℤ side p q (corner_at (Far k)) → side p q r <ℤ side p q (corner_at (Far k))
+farther p q r k hp hq hr lt left =
+    more (side p q (corner_at (Far k))) (side p q r) (toward p q (direction k) *ℤ pos far) (near p q r) (farther_by (pos far) p q r (direction k))
+    (outweighs (toward p q (direction k)) (near p q r) far (near-small p q r hp hq hr) (toward-left p q k hp hq lt left))
+  where
+    more : (s t w x : ℤ) → s -ℤ t ≡ w -ℤ x → x <ℤ w → t <ℤ s
+    more s t w x e h = omega (arith, ints, e, h)
 
 -- ---- two far corners and any other corner
 -- z is neither of the far corners i and j

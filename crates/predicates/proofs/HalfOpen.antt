@@ -6,7 +6,7 @@ use Rattle.std.proofs.lemmas.Int.{ints, by_lt_z}
 use Rattle.ground_model.proofs.ZLaws.{mul_comm}
 use Rattle.ground_model.proofs.ZOrder.{mul-positive}
 use Rattle.predicates.specs.HalfOpen.{crossing_by}
-use Rattle.predicates.proofs.Signs.{mul-nonneg, mul-nonpos, mul-mixed, mul-negative, weaken-neg}
+use Rattle.predicates.proofs.Signs.{mul-nonneg, mul-nonpos, mul-mixed, mul-negative, never-both, never-high, never-low, weaken, weaken-neg}
 
 -- what a hit tells of the three sides
 pub record Tells (h la lb lc : ℤ) : Type 0 where
@@ -70,26 +70,14 @@ one_north : {na nb nc la lb lc : ℤ} → Balance na nb nc la lb lc → pos 0 <�
     → (left_a right_a left_b right_b left_c right_c : Bool) → Beside left_b right_b lb → Beside left_c right_c lc
     → Tells (crossing_by true false left_c right_c +ℤ crossing_by false false left_a right_a +ℤ crossing_by false true left_b right_b) la lb lc
 one_north {na} {nb} {nc} {la} {lb} {lc} w ha hb hc left_a right_a true right_b left_c true sb sc =
-    tells_zero _ la lb lc refl (λ _ _ k. no_both lc k (sc.right_yes refl))
-  where
-    no_both : (x : ℤ) → pos 0 <ℤ x → x <ℤ pos 0 → ⊥
-    no_both x h k = omega (arith, ints, h, k)
+    tells_zero _ la lb lc refl (λ _ _ k. never-both lc k (sc.right_yes refl))
 one_north {na} {nb} {nc} {la} {lb} {lc} w ha hb hc left_a right_a false right_b left_c true sb sc =
-    absurd (one_north-left w ha hb hc (weaken lc (sc.right_yes refl)) (sb.left_no refl))
-  where
-    weaken : (x : ℤ) → x <ℤ pos 0 → x ≤ℤ pos 0
-    weaken x h = omega (arith, ints, h)
+    absurd (one_north-left w ha hb hc (weaken-neg lc (sc.right_yes refl)) (sb.left_no refl))
 one_north {na} {nb} {nc} {la} {lb} {lc} w ha hb hc left_a right_a true right_b left_c false sb sc =
     let kb : pos 0 ≤ℤ lb = weaken lb (sb.left_yes refl) in
     tells_one _ la lb lc refl (one_north-closed w ha hb hc (sc.right_no refl) kb) kb (sc.right_no refl)
-  where
-    weaken : (x : ℤ) → pos 0 <ℤ x → pos 0 ≤ℤ x
-    weaken x h = omega (arith, ints, h)
 one_north {na} {nb} {nc} {la} {lb} {lc} w ha hb hc left_a right_a false right_b left_c false sb sc =
-    tells_zero _ la lb lc refl (λ _ k _. no_both lb k (sb.left_no refl))
-  where
-    no_both : (x : ℤ) → pos 0 <ℤ x → x ≤ℤ pos 0 → ⊥
-    no_both x h k = omega (arith, ints, h, k)
+    tells_zero _ la lb lc refl (λ _ k _. never-low lb k (sb.left_no refl))
 
 -- ---- a alone does not lie north
 two_north-left : {na nb nc la lb lc : ℤ} → Balance na nb nc la lb lc → na ≤ℤ pos 0 → pos 0 <ℤ nb → pos 0 <ℤ nc → lb <ℤ pos 0 → lc ≤ℤ pos 0 → ⊥
@@ -100,9 +88,6 @@ two_north-left {na} {nb} {nc} {la} {lb} {lc} w ha hb hc kb kc =
     alone : (x y z : ℤ) → pos 0 <ℤ (x +ℤ y +ℤ z) → y <ℤ pos 0 → z ≤ℤ pos 0 → pos 0 ≤ℤ x
     alone x y z s h k = omega (arith, ints, s, h, k)
 
-    weaken : (x : ℤ) → pos 0 <ℤ x → pos 0 ≤ℤ x
-    weaken x h = omega (arith, ints, h)
-
     none : (x y y' z z' : ℤ) → x +ℤ y +ℤ z ≡ pos 0 → y ≡ y' → z ≡ z' → x ≤ℤ pos 0 → y' <ℤ pos 0 → z' ≤ℤ pos 0 → ⊥
     none x y y' z z' e ey ez h k l = omega (arith, ints, e, ey, ez, h, k, l)
 
@@ -112,9 +97,6 @@ two_north-closed {na} {nb} {nc} {la} {lb} {lc} w ha hb hc kc kb =
     (λ neg. absurd (none (la *ℤ na) (lb *ℤ nb) (lc *ℤ nc) w.balance (mul-nonpos la na (weaken-neg la neg) ha) (mul-nonneg lb nb kb (weaken nb hb)) (mul-positive lc nc kc hc)))
     (λ le. le)
   where
-    weaken : (x : ℤ) → pos 0 <ℤ x → pos 0 ≤ℤ x
-    weaken x h = omega (arith, ints, h)
-
     none : (x y z : ℤ) → x +ℤ y +ℤ z ≡ pos 0 → pos 0 ≤ℤ x → pos 0 ≤ℤ y → pos 0 <ℤ z → ⊥
     none x y z e h k l = omega (arith, ints, e, h, k, l)
 
@@ -122,23 +104,14 @@ two_north : {na nb nc la lb lc : ℤ} → Balance na nb nc la lb lc → na ≤�
     → (left_a right_a left_b right_b left_c right_c : Bool) → Beside left_b right_b lb → Beside left_c right_c lc
     → Tells (crossing_by false true left_c right_c +ℤ crossing_by true true left_a right_a +ℤ crossing_by true false left_b right_b) la lb lc
 two_north {na} {nb} {nc} {la} {lb} {lc} w ha hb hc left_a right_a left_b true true right_c sb sc =
-    tells_zero _ la lb lc refl (λ _ k _. no_both lb k (sb.right_yes refl))
-  where
-    no_both : (x : ℤ) → pos 0 <ℤ x → x <ℤ pos 0 → ⊥
-    no_both x h k = omega (arith, ints, h, k)
+    tells_zero _ la lb lc refl (λ _ k _. never-both lb k (sb.right_yes refl))
 two_north {na} {nb} {nc} {la} {lb} {lc} w ha hb hc left_a right_a left_b true false right_c sb sc =
     absurd (two_north-left w ha hb hc (sb.right_yes refl) (sc.left_no refl))
 two_north {na} {nb} {nc} {la} {lb} {lc} w ha hb hc left_a right_a left_b false true right_c sb sc =
     let kc : pos 0 <ℤ lc = sc.left_yes refl in
     tells_one _ la lb lc refl (two_north-closed w ha hb hc kc (sb.right_no refl)) (sb.right_no refl) (weaken lc kc)
-  where
-    weaken : (x : ℤ) → pos 0 <ℤ x → pos 0 ≤ℤ x
-    weaken x h = omega (arith, ints, h)
 two_north {na} {nb} {nc} {la} {lb} {lc} w ha hb hc left_a right_a left_b false false right_c sb sc =
-    tells_zero _ la lb lc refl (λ _ _ k. no_both lc k (sc.left_no refl))
-  where
-    no_both : (x : ℤ) → pos 0 <ℤ x → x ≤ℤ pos 0 → ⊥
-    no_both x h k = omega (arith, ints, h, k)
+    tells_zero _ la lb lc refl (λ _ _ k. never-low lc k (sc.left_no refl))
 
 -- ---- all of them, or none
 all_north-outside : {na nb nc la lb lc : ℤ} → Balance na nb nc la lb lc → pos 0 <ℤ na → pos 0 <ℤ nb → pos 0 <ℤ nc → pos 0 <ℤ la → pos 0 <ℤ lb → pos 0 <ℤ lc → ⊥
@@ -154,9 +127,6 @@ none_north-outside {na} {nb} {nc} {la} {lb} {lc} w ha hb hc ka kb kc =
     (level lb nb kb hb (zero_y (la *ℤ na) (lb *ℤ nb) (lc *ℤ nc) w.balance pa pb pc))
     (level lc nc kc hc (zero_z (la *ℤ na) (lb *ℤ nb) (lc *ℤ nc) w.balance pa pb pc))
   where
-    weaken : (x : ℤ) → pos 0 <ℤ x → pos 0 ≤ℤ x
-    weaken x h = omega (arith, ints, h)
-
     pa : (la *ℤ na) ≤ℤ pos 0
     pa = mul-mixed la na (weaken la ka) ha
 
@@ -176,11 +146,8 @@ none_north-outside {na} {nb} {nc} {la} {lb} {lc} w ha hb hc ka kb kc =
     zero_z x y z e h k l = omega (arith, ints, e, h, k, l)
 
     level : (l n : ℤ) → pos 0 <ℤ l → n ≤ℤ pos 0 → pos 0 ≤ℤ (l *ℤ n) → n ≡ pos 0
-    level l n h k p = by_lt_z n (pos 0) (λ neg. absurd (no_both (l *ℤ n) p (mul-negative l n h neg))) (λ ge. both n ge k)
+    level l n h k p = by_lt_z n (pos 0) (λ neg. absurd (never-high (l *ℤ n) p (mul-negative l n h neg))) (λ ge. both n ge k)
       where
-        no_both : (x : ℤ) → pos 0 ≤ℤ x → x <ℤ pos 0 → ⊥
-        no_both x h k = omega (arith, ints, h, k)
-
         both : (x : ℤ) → pos 0 ≤ℤ x → x ≤ℤ pos 0 → x ≡ pos 0
         both x h k = omega (arith, ints, h, k)
 

@@ -1,5 +1,5 @@
 -- Signs of whole numbers and of products.
-use Rattle.std.proofs.Common.{◌≡◌, zero, suc, arith}
+use Rattle.std.proofs.Common.{◌≡◌, ℕ, zero, suc, ap, arith}
 use Rattle.std.specs.Prelude.{ℤ, pos, negsuc, neg_ℤ, ◌-ℤ◌, ◌*ℤ◌, ◌<ℤ◌, ◌≤ℤ◌}
 use Rattle.std.proofs.lemmas.Int.{ints}
 
@@ -73,3 +73,12 @@ mul-negative (pos (suc m)) (negsuc n) h k = omega (arith, ints)
 mul-negative (pos zero) y h k = absurd (omega (arith, ints, h))
 mul-negative (negsuc m) y h k = absurd (omega (arith, ints, h))
 mul-negative x (pos n) h k = absurd (omega (arith, ints, k))
+
+-- a number times a positive one
+pub mul-at-least : (h x : ℤ) (big : ℕ) → h ≡ pos big → pos 0 <ℤ x → pos big ≤ℤ (h *ℤ x)
+mul-at-least h (pos zero) big e k = absurd (omega (arith, ints, k))
+mul-at-least h (pos (suc n)) big e k = by (h *ℤ pos (suc n)) (ap (λ t. t *ℤ pos (suc n)) e)
+  where
+    by : (z : ℤ) → z ≡ pos big *ℤ pos (suc n) → pos big ≤ℤ z
+    by z e = omega (arith, ints, e)
+mul-at-least h (negsuc n) big e k = absurd (omega (arith, ints, k))
