@@ -32,3 +32,6 @@ pub mod FlipFalls
 pub mod IllegalEdge
 pub mod FlipLaws
 pub mod Patched
+-- the hull
+pub mod FarLarger
+pub mod Hull

@@ -3,6 +3,7 @@
 #![tactic(auto)]
 
 ghost use Rattle.cdt_law.specs.Flips.{DestroyedLaw, EditLaw, FallLaw, FlipLaw, KeptLaw};
+ghost use Rattle.cdt_law.specs.Hull.{HullLaw};
 ghost use Rattle.cdt_law.specs.Patch.{PatchLaw};
 ghost use Rattle.cdt_law.specs.Laws.{EdgeLaw, FacetLaw, FirstLaw, LocalLaw, NetLaw, OnceLaw, UniqueLaw};
 
@@ -77,4 +78,10 @@ pub fn fall_law()
 /// result is a locally Delaunay sheet, so its triangles of three places are the facets of its points and pieces.
 pub fn patch_law()
     ensures { PatchLaw }
+{}
+
+/// The facets reach to the convex hull: no point lies to the left of the edge across from a triangle's far corner, where
+/// that is the highest of its corners.
+pub fn hull_law()
+    ensures { HullLaw }
 {}
