@@ -2,6 +2,7 @@ pub mod Acrosses
 pub mod Corners
 pub mod EdgeSearches
 pub mod EdgeSplits
+pub mod EdgeTimes
 pub mod EdgeUnsplits
 pub mod Exchange
 pub mod Exchanged
@@ -14,11 +15,13 @@ pub mod Installed
 pub mod Laying
 pub mod Lists
 pub mod NamedEdges
+pub mod NetOfMesh
 pub mod OldTriangles
 pub mod Patched
 pub mod Recounts
 pub mod Redirected
 pub mod Shape
+pub mod SheetLaw
 pub mod Sides
 pub mod SlotLists
 pub mod Slots

@@ -12,6 +12,7 @@ pub mod Meshes
 pub mod Net
 pub mod Recounts
 pub mod Redirects
+pub mod Sheets
 pub mod SlotLists
 pub mod Splits
 pub mod Stamps

@@ -10,6 +10,7 @@ mod edge_split;
 mod edge_unsplit;
 mod flip;
 mod install;
+mod laws;
 mod lay;
 mod lookups;
 mod mesh;
@@ -31,6 +32,7 @@ mod unsplit;
 mod writes;
 
 pub use across::Across;
+pub use laws::sheet_law;
 pub use mesh::Mesh;
 pub use patch::Patch;
 pub use point_id::PointId;
