@@ -1,7 +1,7 @@
 -- How often an edge occurs among the triangles of slots.
 use Rattle.std.proofs.Common.{◌≡◌, ◌⊎◌, ◌+◌, ℕ, suc, zero, Bool, true, false, Some, None, List, [], ◌∷◌, ◌++◌, length, flat_map, refl, sym, ap, ◌∙◌, inl, inr, subst, arith}
 use Rattle.std.specs.Prelude.{count_by, cond}
-use Rattle.std.specs.List.{list_any, list_all}
+use Rattle.std.specs.List.{list_any, list_all, slice_get}
 use Rattle.std.proofs.lemmas.Bool.{or_left, or_right, and_from}
 use Rattle.std.proofs.lemmas.List.Sums.{sum_by-append}
 use Rattle.std.proofs.lemmas.Option.{none-some}
@@ -170,3 +170,13 @@ either_at (x ∷ states) t (suc i) u e = elim (either_at states t i u e) as (λ 
   | inl h ↦ inl h
   | inr h ↦ inr (ap suc h.0, h.1)
 ]
+
+-- where the triangle of a slot is in their list
+pub listed_at : (states : List State) (i : ℕ) (t : TriSlot) → triangle_at states i ≡ Some t → (j : ℕ) × (slice_get (triangles_of states) j ≡ Some (triangle_of t))
+listed_at [] i t e = absurd (none-some t e)
+listed_at (None ∷ states) zero t e = absurd (none-some t e)
+listed_at (None ∷ states) (suc i) t e = listed_at states i t e
+listed_at (Some None ∷ states) zero t e = absurd (none-some t e)
+listed_at (Some None ∷ states) (suc i) t e = listed_at states i t e
+listed_at (Some (Some u) ∷ states) zero t e = (zero, ap (λ y. Some (triangle_of y)) (same_in u t e))
+listed_at (Some (Some u) ∷ states) (suc i) t e = let j = listed_at states i t e in (suc j.0, j.1)

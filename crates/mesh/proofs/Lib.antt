@@ -10,6 +10,7 @@ pub mod FarTriangle
 pub mod Filled
 pub mod Flips
 pub mod FreedSlots
+pub mod InSheets
 pub mod InstallRuns
 pub mod Installed
 pub mod Laying
@@ -27,8 +28,10 @@ pub mod SlotLists
 pub mod Slots
 pub mod Splits
 pub mod Stamps
+pub mod StepSheets
 pub mod Takes
 pub mod Turned
+pub mod TurnedFaces
 pub mod TurnedSlots
 pub mod Unsplits
 pub mod WrittenSlots

@@ -1,7 +1,8 @@
 -- Places in lists.
-use Rattle.std.proofs.Common.{◌≡◌, ◌⊎◌, ℕ, suc, zero, Some, List, [], ◌∷◌, ◌++◌, length, refl, ap, inl, inr, arith}
-use Rattle.std.specs.List.{slice_get}
+use Rattle.std.proofs.Common.{◌≡◌, ◌⊎◌, ℕ, suc, zero, Some, List, [], ◌∷◌, ◌++◌, length, refl, ap, inl, inr, subst, arith}
+use Rattle.std.specs.List.{All, slice_get}
 use Rattle.std.proofs.lemmas.Bool.{cases_eq}
+use Rattle.std.proofs.lemmas.List.Elements.{All-head, All-tail}
 use Rattle.std.proofs.lemmas.Option.{none-some}
 use Rattle.mesh.specs.SlotLists.{IsKept}
 use Rattle.mesh.proofs.NamedEdges.{same_in}
@@ -47,3 +48,9 @@ is_in (x ∷ xs) s = elim (cases_eq x s) as (λ _. ((i : ℕ) × (slice_get (x �
   | inl e ↦ inl (0, ap Some e)
   | inr ne ↦ kept_by x xs s ne (is_in xs s)
 ]
+
+-- what holds of each holds of that at an index
+pub each_slice : {X : Type 0} (P : X → Type 0) (xs : List X) (i : ℕ) (x : X) → All P xs → slice_get xs i ≡ Some x → P x
+each_slice P [] i x all e = absurd (none-some x e)
+each_slice P (y ∷ xs) zero x all e = subst P (same_in y x e) (All-head P y xs all)
+each_slice P (y ∷ xs) (suc i) x all e = each_slice P xs i x (All-tail P y xs all) e

@@ -10,6 +10,7 @@ use Rattle.mesh.specs.Corners.{Distinct}
 use Rattle.mesh.specs.Faces.{Face, face_at}
 use Rattle.mesh.specs.Meshes.{IsLive}
 use Rattle.mesh.specs.Net.{Side, first, second, third, after, place, Edge, edges_of, slots_of, outside}
+use Rattle.mesh.specs.Sheets.{IsTurned}
 use Rattle.mesh.specs.SlotLists.{IsKept, AreApart}
 
 abbrev pub patch_corner : Patch → Side → Corner
@@ -17,6 +18,14 @@ patch_corner p k = get_or p.corners (place k) (Far 0)
 
 abbrev pub patch_count : Patch → Side → ℕ
 patch_count p k = get_or p.counts (place k) 0
+
+-- a triangle of the patch that leads nowhere yet
+abbrev pub bare : Patch → TriSlot
+bare p = record { corners = p.corners; counts = p.counts; next = outside ∷ outside ∷ outside ∷ []; stamp = 0 }
+
+-- the triangle is one of places or far corners, counterclockwise, and an edge with a far corner has no count
+abbrev pub IsTurnedPatch : Patch → Type 0
+IsTurnedPatch p = IsTurned (bare p)
 
 -- a triangle of the patch has the directed edge from a to b
 pub record HasEdge (patch : List Patch) (a b : Corner) : Type 0 where
@@ -52,10 +61,6 @@ pub record Fits (slots : List State) (old : List ℕ) (patch : List Patch) : Typ
   pub fresh : (a b : Corner) → HasEdge patch a b → (s : ℕ) (k : Side) (e : Edge) → IsKept old s → edges_of (slots_of slots) s k ≡ Some e → e.tail ≡ a → e.head ≡ b → ⊥
   pub closed : (a b : Corner) (x : HasEdge patch a b) → PatchBack patch a b (patch_count x.tri x.side) ⊎ KeptBack slots old a b (patch_count x.tri x.side)
   pub closed_kept : (s : ℕ) (k : Side) (e : Edge) → IsKept old s → edges_of (slots_of slots) s k ≡ Some e → PatchBack patch e.tail e.head e.count ⊎ KeptBack slots old e.tail e.head e.count
-
--- a triangle of the patch that leads nowhere yet
-abbrev pub bare : Patch → TriSlot
-bare p = record { corners = p.corners; counts = p.counts; next = outside ∷ outside ∷ outside ∷ []; stamp = 0 }
 
 -- the face of a triangle of the patch
 abbrev pub patch_face : Patch → ℕ → Face

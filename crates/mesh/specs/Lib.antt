@@ -6,6 +6,7 @@ pub mod EdgeUnsplits
 pub mod Faces
 pub mod FarTriangle
 pub mod Flips
+pub mod Insides
 pub mod Installs
 pub mod Laying
 pub mod Meshes

@@ -1,8 +1,10 @@
 //! Triangles of a mesh give way to others.
 
 ghost use Rattle.std.specs.Prelude.{◌≡◌, ◌+◌, ◌*◌, ◌≤◌, length, map, IfOk, OnOk};
-ghost use Rattle.mesh.specs.Installs.{bare, Fits, IsInstalled};
+ghost use Rattle.std.specs.List.{All};
+ghost use Rattle.mesh.specs.Installs.{bare, Fits, IsInstalled, IsTurnedPatch};
 ghost use Rattle.mesh.specs.Meshes.{IsMesh};
+ghost use Rattle.mesh.specs.Sheets.{IsSheetMesh};
 
 use crate::lay::lay;
 use crate::mesh::Mesh;
@@ -76,9 +78,10 @@ impl Mesh {
         front: u32,
         steps: &mut Steps<L>,
     ) -> Result<(), AllocError>
-        requires mesh { IsMesh self.old.slots }
+        requires sheet { IsSheetMesh self.old.slots }
         requires fits { Fits self.old.slots old.now patch.now }
-        ensures mesh { OnOk result (IsMesh self.new.slots) }
+        requires turned { All IsTurnedPatch patch.now }
+        ensures sheet { OnOk result (IsSheetMesh self.new.slots) }
         ensures installed { OnOk result (IsInstalled self.old.slots self.new.slots old.now patch.now front) }
         ensures turns { self.new.turns ≡ self.old.turns }
         ensures cost { steps.new ≤ steps.old + 6 * (length old.now + length patch.now) }
