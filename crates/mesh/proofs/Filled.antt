@@ -29,12 +29,12 @@ pub mesh_of : (slots : List State) → IsNet (slots_of slots) → Filled slots �
 mesh_of slots net f = record { net = net; distinct = f.distinct; whole = f.whole; few = f.few }
 
 -- a triangle with the face
-record Faced (o : Option TriSlot) (f : Face) : Type 0 where
-  tri : TriSlot
-  is : o ≡ Some tri
-  same : face tri ≡ f
+pub record Faced (o : Option TriSlot) (f : Face) : Type 0 where
+  pub tri : TriSlot
+  pub is : o ≡ Some tri
+  pub same : face tri ≡ f
 
-faced : (o : Option TriSlot) (f : Face) → option_map face o ≡ Some f → Faced o f
+pub faced : (o : Option TriSlot) (f : Face) → option_map face o ≡ Some f → Faced o f
 faced None f e = absurd (none-some f e)
 faced (Some t) f e = record { tri = t; is = refl; same = same_in (face t) f e }
 

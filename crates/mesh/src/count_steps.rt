@@ -3,9 +3,10 @@
 ghost use Rattle.std.specs.Prelude.{◌≡◌, ◌<◌, ◌+◌, ◌++◌, [], ◌∷◌, Some, OnOk};
 ghost use Rattle.tri_pages.specs.Slots.{triangle_at};
 ghost use Rattle.tri_pages.specs.declared.tri_slot.TriSlot.{TriSlot};
-ghost use Rattle.mesh.specs.Acrosses.{IsInner, HasTwoApexes};
-ghost use Rattle.mesh.specs.Meshes.{IsMesh, IsLive, raised};
+ghost use Rattle.mesh.specs.Insides.{JoinsPlaces};
+ghost use Rattle.mesh.specs.Meshes.{IsLive, raised};
 ghost use Rattle.mesh.specs.Net.{side, count_at};
+ghost use Rattle.mesh.specs.Sheets.{IsSheetMesh};
 ghost use Rattle.mesh.specs.Steps.{CountStep, AddStep, TakeStep};
 
 use crate::count::{count_of, set_count};
@@ -35,11 +36,10 @@ impl Mesh {
         script: &mut Script,
     ) -> Result<(), AllocError>
         requires edge { edge < 3 }
-        requires mesh { IsMesh self.old.slots }
+        requires sheet { IsSheetMesh self.old.slots }
         requires live { IsLive self.old.slots slot }
-        requires inner { IsInner self.old.slots slot (side edge) }
-        requires two { HasTwoApexes self.old.slots slot (side edge) }
-        ensures mesh { OnOk result (IsMesh self.new.slots) }
+        requires places { JoinsPlaces self.old.slots slot (side edge) }
+        ensures sheet { OnOk result (IsSheetMesh self.new.slots) }
         ensures count { OnOk result (CountStep self.old.slots self.new.slots slot (side edge) count script.old script.new) }
         ensures turns { OnOk result (self.new.turns ≡ raised self.old.turns) }
     {
@@ -49,15 +49,14 @@ impl Mesh {
         Ok(())
     }
 
-    /// Counts one more line over an edge.
+    /// Counts one more line over an edge, which joins two places.
     pub fn add_count(&mut self, slot: u32, edge: u8, script: &mut Script) -> Result<(), AllocError>
         requires edge { edge < 3 }
-        requires mesh { IsMesh self.old.slots }
+        requires sheet { IsSheetMesh self.old.slots }
         requires live { IsLive self.old.slots slot }
-        requires inner { IsInner self.old.slots slot (side edge) }
-        requires two { HasTwoApexes self.old.slots slot (side edge) }
+        requires places { JoinsPlaces self.old.slots slot (side edge) }
         requires room { (t : TriSlot) → triangle_at self.old.slots slot ≡ Some t → count_at t (side edge) < 65535 }
-        ensures mesh { OnOk result (IsMesh self.new.slots) }
+        ensures sheet { OnOk result (IsSheetMesh self.new.slots) }
         ensures count { OnOk result (AddStep self.old.slots self.new.slots slot (side edge) script.old script.new) }
         ensures turns { OnOk result (self.new.turns ≡ raised self.old.turns) }
     {
@@ -69,12 +68,10 @@ impl Mesh {
     /// Counts one line less over an edge.
     pub fn take_count(&mut self, slot: u32, edge: u8, script: &mut Script) -> Result<(), AllocError>
         requires edge { edge < 3 }
-        requires mesh { IsMesh self.old.slots }
+        requires sheet { IsSheetMesh self.old.slots }
         requires live { IsLive self.old.slots slot }
-        requires inner { IsInner self.old.slots slot (side edge) }
-        requires two { HasTwoApexes self.old.slots slot (side edge) }
         requires counted { (t : TriSlot) → triangle_at self.old.slots slot ≡ Some t → 0 < count_at t (side edge) }
-        ensures mesh { OnOk result (IsMesh self.new.slots) }
+        ensures sheet { OnOk result (IsSheetMesh self.new.slots) }
         ensures count { OnOk result (TakeStep self.old.slots self.new.slots slot (side edge) script.old script.new) }
         ensures turns { OnOk result (self.new.turns ≡ raised self.old.turns) }
     {

@@ -5,26 +5,35 @@
 mod across;
 mod count;
 mod count_steps;
+mod edge_find;
 mod edge_split;
 mod edge_unsplit;
 mod flip;
+mod install;
+mod laws;
+mod lay;
 mod lookups;
 mod mesh;
+mod patch;
 mod point_id;
 mod read;
 mod redirect;
 mod script;
 mod seen;
+mod slot_lists;
 mod split;
 mod stamp;
 mod steps;
 mod take;
 #[cfg(test)]
 mod tests;
+mod turn;
 mod unsplit;
 mod writes;
 
 pub use across::Across;
+pub use laws::sheet_law;
 pub use mesh::Mesh;
+pub use patch::Patch;
 pub use point_id::PointId;
 pub use script::Script;

@@ -2,7 +2,7 @@
 
 ghost use Rattle.std.specs.Prelude.{◌≡◌, ◌<◌, IfOk};
 ghost use Rattle.mesh.specs.FarTriangle.{far_alone};
-ghost use Rattle.mesh.specs.Meshes.{IsMesh};
+ghost use Rattle.mesh.specs.Sheets.{IsSheetMesh};
 
 use crate::redirect::OUTSIDE;
 use ground_model::Corner;
@@ -16,7 +16,7 @@ use tri_pages::{TriPages, TriSlot};
 ///
 /// It is a net (CGAL's triangulation data structure): each directed edge occurs once, and beyond it
 /// stands the slot that has its reverse. After an error a mesh is half written and is only to be
-/// dropped, so `IsMesh` is a condition of each call and not an invariant of the type.
+/// dropped, so `IsSheetMesh` is a condition of each call and not an invariant of the type.
 #[derive(Drop)]
 pub struct Mesh {
     pub(crate) pages: TriPages,
@@ -55,7 +55,7 @@ fn far_pages<L: Ledger>(alloc: Global, blank: Blank) -> Result<TriPages, AllocEr
 impl Mesh {
     /// The triangle of the far corners alone, in slot 0.
     pub fn empty(alloc: Global) -> Result<Mesh, AllocError>
-        ensures mesh { IfOk result (λ m. IsMesh m.slots) }
+        ensures sheet { IfOk result (λ m. IsSheetMesh m.slots) }
         ensures far { IfOk result (λ m. m.slots ≡ far_alone) }
         ensures turns { IfOk result (λ m. m.turns ≡ 0) }
     {

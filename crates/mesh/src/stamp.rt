@@ -2,6 +2,7 @@
 
 ghost use Rattle.std.specs.Prelude.{◌≡◌, ◌+◌, ◌≤◌, OnOk};
 ghost use Rattle.mesh.specs.Meshes.{IsMesh, IsLive};
+ghost use Rattle.mesh.specs.Sheets.{IsSheetMesh};
 ghost use Rattle.mesh.specs.Stamps.{IsStamped, stamped};
 
 use crate::mesh::Mesh;
@@ -47,9 +48,9 @@ impl Mesh {
         front: u32,
         steps: &mut Steps<L>,
     ) -> Result<(), AllocError>
-        requires mesh { IsMesh self.old.slots }
+        requires sheet { IsSheetMesh self.old.slots }
         requires live { IsLive self.old.slots slot }
-        ensures mesh { OnOk result (IsMesh self.new.slots) }
+        ensures sheet { OnOk result (IsSheetMesh self.new.slots) }
         ensures stamped { OnOk result (IsStamped self.old.slots self.new.slots slot front) }
         ensures turns { self.new.turns ≡ self.old.turns }
         ensures cost { steps.new ≤ steps.old + 2 }

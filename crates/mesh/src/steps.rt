@@ -2,10 +2,11 @@
 
 ghost use Rattle.std.specs.Prelude.{◌≡◌, ◌<◌, ◌+◌, ◌*◌, ◌^◌, ◌++◌, [], ◌∷◌, IfOk, OnOk};
 ghost use Rattle.ground_model.specs.declared.corner.Corner.TheVariants.{At};
-ghost use Rattle.mesh.specs.Acrosses.{IsInner, HasTwoApexes};
-ghost use Rattle.mesh.specs.Flips.{IsFlippable};
-ghost use Rattle.mesh.specs.Meshes.{IsMesh, IsLive, HasNoCorner, raised};
+ghost use Rattle.mesh.specs.Acrosses.{IsInner};
+ghost use Rattle.mesh.specs.Insides.{IsInSlot, IsOnSlot, IsConvexAt, IsUncounted};
+ghost use Rattle.mesh.specs.Meshes.{IsLive, raised};
 ghost use Rattle.mesh.specs.Net.{side, after};
+ghost use Rattle.mesh.specs.Sheets.{IsSheetMesh};
 ghost use Rattle.mesh.specs.Steps.{SplitStep, EdgeSplitStep, FlipStep, UnsplitStep};
 ghost use Rattle.mesh.specs.Unsplits.{IsUnsplittable};
 
@@ -65,7 +66,7 @@ fn note_four(
 }
 
 impl Mesh {
-    /// Splits the triangle of a slot at a place within it. The three parts stand in the slot and in
+    /// Splits the triangle of a slot at a place strictly within it. The three parts stand in the slot and in
     /// two that were free. The answer is the number of the new point.
     pub fn split(
         &mut self,
@@ -73,14 +74,16 @@ impl Mesh {
         place: Place,
         script: &mut Script,
     ) -> Result<PointId, AllocError>
-        requires mesh { IsMesh self.old.slots }
+        requires sheet { IsSheetMesh self.old.slots }
         requires live { IsLive self.old.slots slot }
-        requires no_corner { HasNoCorner self.old.slots (At place) }
-        ensures mesh { OnOk result (IsMesh self.new.slots) }
+        requires inside { IsInSlot self.old.slots slot place }
+        ensures sheet { OnOk result (IsSheetMesh self.new.slots) }
         ensures split { OnOk result (SplitStep self.old.slots self.new.slots slot (At place) script.old script.new) }
         ensures turns { OnOk result (self.new.turns ≡ raised self.old.turns) }
         ensures point { IfOk result (λ point. point.0 ≡ 4 * slot + 2) }
     {
+        // For the proof: a place is within the limit.
+        let _easting = place.e();
         let (second, third) = split_slots::<Brand>(
             &mut self.pages,
             slot,
@@ -92,8 +95,8 @@ impl Mesh {
         Ok(point_id(slot, 2))
     }
 
-    /// Splits an edge at a place within it, with both triangles at it. The answer is the number of
-    /// the new point.
+    /// Splits an edge at a place strictly within it, with both triangles at it. Both parts keep its
+    /// count. The answer is the number of the new point.
     pub fn split_edge(
         &mut self,
         slot: u32,
@@ -102,16 +105,16 @@ impl Mesh {
         script: &mut Script,
     ) -> Result<PointId, AllocError>
         requires edge { edge < 3 }
-        requires mesh { IsMesh self.old.slots }
+        requires sheet { IsSheetMesh self.old.slots }
         requires live { IsLive self.old.slots slot }
-        requires inner { IsInner self.old.slots slot (side edge) }
-        requires two { HasTwoApexes self.old.slots slot (side edge) }
-        requires no_corner { HasNoCorner self.old.slots (At place) }
-        ensures mesh { OnOk result (IsMesh self.new.slots) }
+        requires on { IsOnSlot self.old.slots slot (side edge) place }
+        ensures sheet { OnOk result (IsSheetMesh self.new.slots) }
         ensures split { OnOk result (EdgeSplitStep self.old.slots self.new.slots slot (side edge) (At place) script.old script.new) }
         ensures turns { OnOk result (self.new.turns ≡ raised self.old.turns) }
         ensures point { IfOk result (λ point. point.0 ≡ 4 * slot + 1) }
     {
+        // For the proof: a place is within the limit.
+        let _easting = place.e();
         let parts = split_edge_slots::<Brand>(
             &mut self.pages,
             slot,
@@ -124,12 +127,16 @@ impl Mesh {
         Ok(point_id(slot, 1))
     }
 
-    /// Turns the common edge of two triangles to the other diagonal of their quadrilateral.
+    /// Turns the common edge of two triangles to the other diagonal of their quadrilateral, which is
+    /// strictly convex. The edge has no count.
     pub fn flip(&mut self, slot: u32, edge: u8, script: &mut Script) -> Result<(), AllocError>
         requires edge { edge < 3 }
-        requires mesh { IsMesh self.old.slots }
-        requires flippable { IsFlippable self.old.slots slot (side edge) }
-        ensures mesh { OnOk result (IsMesh self.new.slots) }
+        requires sheet { IsSheetMesh self.old.slots }
+        requires live { IsLive self.old.slots slot }
+        requires inner { IsInner self.old.slots slot (side edge) }
+        requires uncounted { IsUncounted self.old.slots slot (side edge) }
+        requires convex { IsConvexAt self.old.slots slot (side edge) }
+        ensures sheet { OnOk result (IsSheetMesh self.new.slots) }
         ensures flip { OnOk result (FlipStep self.old.slots self.new.slots slot (side edge) script.old script.new) }
         ensures turns { OnOk result (self.new.turns ≡ raised self.old.turns) }
     {
@@ -143,9 +150,9 @@ impl Mesh {
     /// slot; the two other slots are free.
     pub fn unsplit(&mut self, slot: u32, corner: u8, script: &mut Script) -> Result<(), AllocError>
         requires corner { corner < 3 }
-        requires mesh { IsMesh self.old.slots }
+        requires sheet { IsSheetMesh self.old.slots }
         requires unsplittable { IsUnsplittable self.old.slots slot (after (side corner)) }
-        ensures mesh { OnOk result (IsMesh self.new.slots) }
+        ensures sheet { OnOk result (IsSheetMesh self.new.slots) }
         ensures unsplit { OnOk result (UnsplitStep self.old.slots self.new.slots slot (after (side corner)) script.old script.new) }
         ensures turns { OnOk result (self.new.turns ≡ raised self.old.turns) }
     {

@@ -11,9 +11,12 @@ use tri_pages::TriPages;
 /// No mesh has more slots.
 const LIMIT: u32 = 1_073_741_824;
 
-// Takes a free slot. Where the pages have as many slots as a mesh can, it is out of memory.
+/// Takes a free slot. Where the pages have as many slots as a mesh can, it is out of memory.
 #[tactic(auto, using(tri_pages::proofs::Taken::length_taken))]
-fn take_blank<L: Ledger>(pages: &mut TriPages, steps: &mut Steps<L>) -> Result<u32, AllocError>
+pub(crate) fn take_blank<L: Ledger>(
+    pages: &mut TriPages,
+    steps: &mut Steps<L>,
+) -> Result<u32, AllocError>
     ensures taking { IfOk result (λ slot. IsTaking pages.old pages.new slot) }
     ensures cost { steps.new ≤ steps.old + 1 }
 {

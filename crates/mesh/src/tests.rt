@@ -21,6 +21,8 @@ fn part(place: Place, from: u8, to: u8, next: [u32; 3]) -> TriSlot {
 fn split_at<R: Abort>(rt: &R, alloc: Global, place: Place) -> Result<Mesh, Fail> {
     let mut mesh = Mesh::empty(alloc)?;
     let mut script = Script::new(alloc);
+    // For the proof: a place is within the limit.
+    let _easting = place.e();
     let point = mesh.split(0, place, &mut script)?;
     assert_eq!(rt; point.0, 2, "the third corner of slot 0");
     assert_eq!(rt; script.len(), 3, "three triangles were written");

@@ -1,8 +1,5 @@
-use Rattle.std.proofs.Common.{sym, subst}
-use Rattle.ground_model.specs.declared.corner.Corner.TheVariants.{At}
-use Rattle.mesh.specs.Meshes.{HasNoCorner}
-use Rattle.mesh.proofs.FarTriangle.{far_has_no_place}
+use Rattle.mesh.proofs.StepSheets.{far_inside}
 use Rattle.mesh.proofs.tests.split_at.Goals as goal
 
-pub split-requires-clause-no_corner : goal.split-requires-clause-no_corner
-split-requires-clause-no_corner g c = subst (λ ps. HasNoCorner ps (At c.args.place)) (sym c.in_ok-mesh.ensures.far) (far_has_no_place c.args.place)
+pub split-requires-clause-inside : goal.split-requires-clause-inside
+split-requires-clause-inside g c = far_inside c.in_ok-mesh.mesh.slots c.args.place c.in_ok-mesh.ensures.far c.e-easting.ensures.place
