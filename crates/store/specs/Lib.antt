@@ -2,4 +2,5 @@ pub mod Surfaces
 pub mod Births
 pub mod Versions
 pub mod Outcomes
+pub mod Costs
 pub mod Answers
