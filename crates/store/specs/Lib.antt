@@ -4,3 +4,6 @@ pub mod Versions
 pub mod Outcomes
 pub mod Costs
 pub mod Answers
+pub mod Core
+pub mod Members
+pub mod Runs
