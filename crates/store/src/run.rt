@@ -99,7 +99,7 @@ impl Run {
     }
 
     // Some events, one after another.
-    fn steps<L: Ledger>(
+    fn answer_all<L: Ledger>(
         &mut self,
         events: &[Event],
         steps: &mut Steps<L>,
@@ -127,7 +127,7 @@ fn run_counted<L: Ledger>(
     requires run { IsRun run.old }
     ensures { IfOk result (λ replies. replies.items ≡ (core_from run.old.store.journal.limits (state_of run.old) events.now).1) }
 {
-    run.steps(events, &mut Steps::<L>::new(blank))
+    run.answer_all(events, &mut Steps::<L>::new(blank))
 }
 
 /// A run of the core: the replies to these events of some sessions on one store, which is empty at

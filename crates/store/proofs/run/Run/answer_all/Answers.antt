@@ -2,7 +2,7 @@ use Rattle.std.proofs.Common.{◌+◌, ◌++◌, ap, arith, drop, ◌∙◌}
 use Rattle.store.specs.Core.{core_from}
 use Rattle.store.specs.Runs.{state_of}
 use Rattle.store.proofs.Runs.{runs-on}
-use Rattle.store.proofs.run.Run.steps.Goals as goal
+use Rattle.store.proofs.run.Run.answer_all.Goals as goal
 
 pub loop-event-preserved : goal.loop-event-preserved
 loop-event-preserved g c = record {

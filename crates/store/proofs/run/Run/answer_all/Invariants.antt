@@ -1,7 +1,7 @@
 use Rattle.std.proofs.Common.{◌≡◌, ◌++◌, drop}
 use Rattle.store.specs.Core.{core_from}
 use Rattle.store.specs.Runs.{state_of, IsRun}
-use Rattle.store.proofs.run.Run.steps.Given as goal
+use Rattle.store.proofs.run.Run.answer_all.Given as goal
 
 abbrev pub invariant-loop-event : goal.invariant-loop-event
 invariant-loop-event g l = record {
