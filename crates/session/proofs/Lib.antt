@@ -8,3 +8,5 @@ pub mod Streams
 pub mod Exchanges
 pub mod Answering
 pub mod Turns
+pub mod Moves
+pub mod Runs

@@ -15,7 +15,7 @@ use Rattle.line_protocol.specs.declared.request.Request.{Request}
 use Rattle.line_protocol.specs.declared.request.Request.TheVariants as asks
 use Rattle.turn_lock.specs.Setting.{setting}
 use Rattle.turn_lock.specs.declared.journal.Journal.{Journal}
-use Rattle.store.specs.Versions.{VersionView, PlanView, with_next}
+use Rattle.store.specs.Versions.{VersionView, PlanView, as_pending, with_next}
 use Rattle.store.specs.Answers.{answer_at, Commits, Applies}
 use Rattle.store.specs.declared.answers.Applied.{Applied}
 use Rattle.store.specs.declared.answers.Applied.TheVariants as applied
@@ -25,7 +25,7 @@ use Rattle.session.specs.Table.{to_edit, to_commit}
 use Rattle.session.specs.Told.{done_front, edit_made}
 use Rattle.session.specs.Transcript.{IsAnswer}
 use Rattle.session.specs.Talking.{Serves, entries_after}
-use Rattle.session.specs.Sessions.{SessionView, OwnStep, TurnStep, Begins, Ends, takes_turn, held_after, position, as_pending}
+use Rattle.session.specs.Sessions.{SessionView, OwnStep, TurnStep, Begins, Ends, takes_turn, held_after, position}
 use Rattle.session.specs.declared.session.Work.TheVariants as works
 use Rattle.session.specs.declared.session.WorkDone.TheVariants as dones
 

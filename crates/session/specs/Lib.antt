@@ -7,3 +7,4 @@ pub mod Order
 pub mod Talk
 pub mod Talking
 pub mod Sessions
+pub mod Runs

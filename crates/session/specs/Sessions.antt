@@ -1,5 +1,5 @@
 -- What a session is seen as, and what its steps do.
-use Rattle.std.specs.Prelude.{◌≡◌, ℕ, length, Bool, true, false, Option, None, Some, Ok, Err, is_some, MatchOption, ⊤}
+use Rattle.std.specs.Prelude.{◌≡◌, ℕ, length, Bool, true, false, Option, None, Some, Ok, Err, is_some, ⊤}
 use Rattle.ground_model.specs.Answer.{Pending}
 use Rattle.line_protocol.specs.declared.reply.Reply.{Reply}
 use Rattle.line_protocol.specs.declared.reply.Reply.TheVariants.{Held, Planned, Done, Conflict, Refused, Level, Contour, Volume, Stat, Export, Bye, Syntax, Range, NoPlan, Memory, Unbuilt}
@@ -8,7 +8,7 @@ use Rattle.line_protocol.specs.declared.request.Request.TheVariants as asks
 use Rattle.turn_lock.specs.Journal.{IsPrefix}
 use Rattle.turn_lock.specs.Setting.{setting}
 use Rattle.turn_lock.specs.declared.journal.Journal.{Journal}
-use Rattle.store.specs.Versions.{PlanView}
+use Rattle.store.specs.Versions.{as_pending}
 use Rattle.store.specs.declared.plan.PlanFault.{PlanFault}
 use Rattle.store.specs.declared.plan.PlanFault.TheVariants as faults
 use Rattle.store.specs.declared.answers.Applied.TheVariants as applied
@@ -30,14 +30,6 @@ pub record SessionView : Type 0 where
 -- what a session works on, where the store has this journal
 abbrev pub position : Journal → SessionView → Position
 position j s = record { journal = j; pending = s.pending }
-
--- a plan, as a transcript knows it
-abbrev pub as_pending : PlanView → Pending
-as_pending plan = record { base = length plan.journal.entries; edit = plan.edit }
-
--- a pending plan is one of a version that the held one begins with
-abbrev pub IsSession : Journal → Option PlanView → Type 0
-IsSession j plan = MatchOption plan ⊤ (λ p. IsPrefix p.journal j)
 
 -- whether a request takes a turn on the store
 abbrev pub takes_turn : Option Pending → Request → Bool

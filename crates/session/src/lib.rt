@@ -3,8 +3,10 @@
 #![tactic(auto)]
 
 mod conversation;
+mod law;
 mod line;
 mod session;
 
 pub use conversation::{Ended, talk};
+pub use law::transcript_law;
 pub use session::{Session, Work, WorkDone, begin_turn, end_turn, needs_turn, own_step, turn_step};

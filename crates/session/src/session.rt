@@ -7,7 +7,8 @@ ghost use Rattle.ground_model.specs.Zone.{zone};
 ghost use Rattle.line_protocol.specs.declared.reply.Reply.TheVariants.{Planned};
 ghost use Rattle.line_protocol.specs.declared.request.Request.TheVariants.{Plan as AsksPlan};
 ghost use Rattle.turn_lock.specs.Journal.{IsPrefix};
-ghost use Rattle.session.specs.Sessions.{OwnStep, TurnStep, Begins, MayEnd, Ends, IsUnplanned, as_pending, takes_turn};
+ghost use Rattle.store.specs.Versions.{as_pending};
+ghost use Rattle.session.specs.Sessions.{OwnStep, TurnStep, Begins, MayEnd, Ends, IsUnplanned, takes_turn};
 
 use ground_model::Edit;
 use line_protocol::{Reply, Request};
@@ -28,13 +29,14 @@ pub struct Session {
 
 impl Model for Session {
     ghost use Rattle.std.specs.Prelude.{option_map};
-    ghost use Rattle.session.specs.Sessions.{SessionView, as_pending, IsSession};
+    ghost use Rattle.store.specs.Versions.{as_pending, IsPending};
+    ghost use Rattle.session.specs.Sessions.{SessionView};
 
     ghost Value = { SessionView };
 
     ghost view = { λ s. record { author = s.author; journal = s.version.journal; pending = option_map as_pending s.plan } };
 
-    ghost invariant = { λ s. IsSession s.version.journal s.plan };
+    ghost invariant = { λ s. IsPending s.version.journal s.plan };
 }
 
 /// What a turn on the store is to do.

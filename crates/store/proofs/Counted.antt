@@ -18,7 +18,8 @@ entries-push author h x = sum_by-append (λ entry. cond (nat_eq entry.author aut
     one true e = rw e refl
     one false e = rw e refl
 
-at-equal : (a b : ℕ) → is_at (nat_cmp a) b ≡ nat_eq a b
+-- the tests of a map at a number
+pub at-equal : (a b : ℕ) → is_at (nat_cmp a) b ≡ nat_eq a b
 at-equal a b = grind (arith, nat_tests)
 
 pub counts-push : (h : List Entry) (x : Entry) (old now : List (ℕ × ℕ)) (author number : ℕ) → AreCounts h old → x.author ≡ author → number ≡ entries_of author h + 1

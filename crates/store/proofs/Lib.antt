@@ -11,3 +11,5 @@ pub mod Reliefs
 pub mod Removals
 pub mod Sound
 pub mod Zones
+pub mod Moves
+pub mod Runs

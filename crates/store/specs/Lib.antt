@@ -2,4 +2,8 @@ pub mod Surfaces
 pub mod Births
 pub mod Versions
 pub mod Outcomes
+pub mod Costs
 pub mod Answers
+pub mod Core
+pub mod Members
+pub mod Runs

@@ -1,5 +1,5 @@
 -- What versions, stores and plans are seen as, and what is true of them.
-use Rattle.std.specs.Prelude.{◌≡◌, ℕ, ◌+◌, ◌≤◌, ◌<◌, ◌^◌, List, [], ◌∷◌, length, Option, None}
+use Rattle.std.specs.Prelude.{◌≡◌, ℕ, ◌+◌, ◌≤◌, ◌<◌, ◌^◌, List, [], ◌∷◌, length, Option, None, MatchOption, ⊤}
 use Rattle.std.specs.FinMap as finmap
 use Rattle.ground_num.specs.Head.{IsOrigin}
 use Rattle.ground_model.specs.declared.edit.Edit.{Edit}
@@ -9,9 +9,9 @@ use Rattle.ground_model.specs.declared.slope.Slope.{Slope}
 use Rattle.ground_model.specs.Content.{after}
 use Rattle.ground_model.specs.History.{content_of, born, IsLegal}
 use Rattle.ground_model.specs.Refusal.{refusal}
-use Rattle.ground_model.specs.Answer.{next_entry}
+use Rattle.ground_model.specs.Answer.{Pending, next_entry}
 use Rattle.ground_model.specs.Zone.{zone}
-use Rattle.turn_lock.specs.Journal.{extended}
+use Rattle.turn_lock.specs.Journal.{extended, IsPrefix}
 use Rattle.turn_lock.specs.declared.journal.Journal.{Journal}
 use Rattle.store.specs.declared.state.Made.{Made}
 use Rattle.store.specs.Births.{AreBirths, AreCounts, born_after}
@@ -25,6 +25,14 @@ pub record VersionView : Type 0 where
 pub record PlanView : Type 0 where
   pub journal : Journal
   pub edit : Edit
+
+-- a plan, as an answer to it knows it
+abbrev pub as_pending : PlanView → Pending
+as_pending plan = record { base = length plan.journal.entries; edit = plan.edit }
+
+-- a pending plan is one of a version that this one begins with
+abbrev pub IsPending : Journal → Option PlanView → Type 0
+IsPending j plan = MatchOption plan ⊤ (λ p. IsPrefix p.journal j)
 
 -- a store: its journal
 pub record StoreView : Type 0 where

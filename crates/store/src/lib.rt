@@ -5,10 +5,13 @@
 mod answers;
 mod authors;
 mod births;
+mod event;
 mod facets;
+mod member;
 mod outcome;
 mod plan;
 mod refusals;
+mod run;
 mod slopes;
 mod state;
 mod store;
@@ -17,6 +20,8 @@ mod version;
 mod zone;
 
 pub use answers::{Applied, Commit};
+pub use event::{CoreReply, Event, Query};
 pub use plan::{Plan, PlanFault};
+pub use run::run_core;
 pub use store::Store;
 pub use version::Version;

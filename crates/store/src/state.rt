@@ -1,6 +1,6 @@
 //! What a version is made of.
 
-ghost use Rattle.std.specs.Prelude.{◌≡◌, ◌<◌, ◌≤◌, ◌^◌, [], None, Some, length, slice_get, map as each, IfOk};
+ghost use Rattle.std.specs.Prelude.{◌≡◌, ◌<◌, ◌≤◌, ◌+◌, ◌^◌, [], None, Some, length, slice_get, map as each, IfOk};
 ghost use Rattle.std.specs.FinMap as map;
 ghost use Rattle.std.specs.Option.{option_copied};
 ghost use Rattle.ground_num.specs.Head.{IsOrigin};
@@ -136,7 +136,8 @@ impl State {
     ) -> Result<State, AllocError>
         requires lawful { newest_refusal self.now.journal edit.now ≡ None }
         requires made { IsMadeBy self.now.journal edit.now made }
-        ensures { IfOk result (λ state. state.journal ≡ with_next author self.now.journal edit.now) }
+        ensures state { IfOk result (λ state. state.journal ≡ with_next author self.now.journal edit.now) }
+        ensures cost { steps.new ≤ steps.old + 1 }
     {
         let number = self.authors.entries(author) + 1;
         let entry = Entry {
@@ -157,8 +158,8 @@ impl State {
     }
 }
 
-// A copy of the edit, which takes memory for the places of a line alone.
-fn copied(alloc: Global, edit: &Edit) -> Result<Edit, AllocError>
+/// A copy of the edit, which takes memory for the places of a line alone.
+pub(crate) fn copied(alloc: Global, edit: &Edit) -> Result<Edit, AllocError>
     ensures { IfOk result (λ copy. copy ≡ edit.now) }
 {
     match edit {

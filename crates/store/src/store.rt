@@ -1,10 +1,11 @@
 //! The store: the newest version, and how plans are committed.
 
-ghost use Rattle.std.specs.Prelude.{◌≡◌, ◌<◌, [], None, length, IfOk, OnOk, OnErr};
+ghost use Rattle.std.specs.Prelude.{◌≡◌, ◌<◌, ◌≤◌, ◌+◌, [], None, length, IfOk, OnOk, OnErr};
 ghost use Rattle.ground_num.specs.Head.{IsOrigin};
 ghost use Rattle.ground_model.specs.History.{IsLegal};
 ghost use Rattle.turn_lock.specs.Journal.{IsPrefix};
 ghost use Rattle.store.specs.Versions.{newest_refusal, with_next, IsMadeBy};
+ghost use Rattle.store.specs.Costs.{most_steps};
 ghost use Rattle.store.specs.Answers.{Applies, Commits, Settles};
 
 use crate::answers::{Applied, Commit, Settled};
@@ -73,6 +74,7 @@ impl Store {
         ensures ok { OnOk result (self.new.journal ≡ with_next author self.old.journal edit.now) }
         ensures version { IfOk result (λ version. version.journal ≡ self.new.journal) }
         ensures err { OnErr result (self.new.journal ≡ self.old.journal) }
+        ensures cost { steps.new ≤ steps.old + 1 }
     {
         let version = self.newest.with_entry(author, edit, made, steps)?;
         let handle = version.share()?;
@@ -89,6 +91,7 @@ impl Store {
     ) -> Result<Settled, AllocError>
         ensures ok { IfOk result (Settles author edit.now self.old.journal self.new.journal) }
         ensures err { OnErr result (self.new.journal ≡ self.old.journal) }
+        ensures cost { steps.new ≤ steps.old + 1 }
     {
         match self.newest.outcome(edit)? {
             Outcome::Lawful(made) => {
@@ -104,7 +107,8 @@ impl Store {
     fn commit_stale<L: Ledger>(&mut self, author: u16, plan: Plan, steps: &mut Steps<L>) -> Commit
         requires prefix { IsPrefix plan.journal self.old.journal }
         requires stale { length plan.journal.entries < length self.old.journal.entries }
-        ensures { Commits author plan self.old.journal self.new.journal result }
+        ensures answer { Commits author plan self.old.journal self.new.journal result }
+        ensures cost { steps.new ≤ steps.old + 1 }
     {
         if let Some(mark) = plan.first_changed(&self.newest) {
             return match self.newest.share() {
@@ -122,7 +126,8 @@ impl Store {
     // Commits a plan of the newest version, which is lawful there: its surface is taken over.
     fn commit_fresh<L: Ledger>(&mut self, author: u16, plan: Plan, steps: &mut Steps<L>) -> Commit
         requires { plan.journal ≡ self.old.journal }
-        ensures { Commits author plan self.old.journal self.new.journal result }
+        ensures answer { Commits author plan self.old.journal self.new.journal result }
+        ensures cost { steps.new ≤ steps.old + 1 }
     {
         let line = self.newest.new_line(plan.edit());
         let Ok(made) = plan.made() else {
@@ -140,7 +145,8 @@ impl Store {
     /// triangulated anew. Unless the edit is made, the store is as before.
     pub fn commit<L: Ledger>(&mut self, author: u16, plan: Plan, steps: &mut Steps<L>) -> Commit
         requires { IsPrefix plan.journal self.old.journal }
-        ensures { Commits author plan self.old.journal self.new.journal result }
+        ensures answer { Commits author plan self.old.journal self.new.journal result }
+        ensures cost { steps.new ≤ steps.old + most_steps plan.journal plan.edit self.old.journal self.new.journal }
     {
         if plan.base() < self.newest.front() {
             self.commit_stale(author, plan, steps)
@@ -151,7 +157,8 @@ impl Store {
 
     /// Plans an edit on the newest version and commits it at once.
     pub fn apply<L: Ledger>(&mut self, author: u16, edit: Edit, steps: &mut Steps<L>) -> Applied
-        ensures { Applies author edit self.old.journal self.new.journal result }
+        ensures answer { Applies author edit self.old.journal self.new.journal result }
+        ensures cost { steps.new ≤ steps.old + most_steps self.old.journal edit self.old.journal self.new.journal }
     {
         match self.settle(author, &edit, steps) {
             Ok(Settled::Done(version, line)) => Applied::Done(version, line),

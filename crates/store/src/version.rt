@@ -1,6 +1,6 @@
 //! Versions of the surface.
 
-ghost use Rattle.std.specs.Prelude.{◌≡◌, ◌≤◌, ◌^◌, true, None, length, slice_get, option_map, IfOk, IfErr};
+ghost use Rattle.std.specs.Prelude.{◌≡◌, ◌≤◌, ◌+◌, ◌^◌, true, None, length, slice_get, option_map, IfOk, IfErr};
 ghost use Rattle.std.specs.Option.{option_copied};
 ghost use Rattle.std.specs.FinMap as map;
 ghost use Rattle.ground_num.specs.Head.{IsOrigin};
@@ -184,7 +184,8 @@ impl Version {
     ) -> Result<Version, AllocError>
         requires lawful { newest_refusal self.now.journal edit.now ≡ None }
         requires made { IsMadeBy self.now.journal edit.now made }
-        ensures { IfOk result (λ version. version.journal ≡ with_next author self.now.journal edit.now) }
+        ensures version { IfOk result (λ version. version.journal ≡ with_next author self.now.journal edit.now) }
+        ensures cost { steps.new ≤ steps.old + 1 }
     {
         let state = self.state.get();
         let next = state.with_entry(author, edit, made, steps)?;

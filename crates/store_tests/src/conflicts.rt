@@ -31,8 +31,8 @@ pub(crate) const POINT: [Exchange; 3] = [
     (B, "sync", "front 1"),
 ];
 
-// One facet.
-const TRIANGLE: [Exchange; 5] = [
+/// One facet, which A and B hold.
+pub(crate) const TRIANGLE: [Exchange; 5] = [
     (A, "do add 0 0 0", "done 1"),
     (A, "do add 0 10 0", "done 2"),
     (A, "do add 10 0 0", "done 3"),
@@ -40,8 +40,8 @@ const TRIANGLE: [Exchange; 5] = [
     (B, "sync", "front 3"),
 ];
 
-// Two facets, which the diagonal of the least place parts.
-const SQUARE: [Exchange; 6] = [
+/// Two facets, which the diagonal of the least place parts.
+pub(crate) const SQUARE: [Exchange; 6] = [
     (A, "do add 0 0 2", "done 1"),
     (A, "do add 0 10 0", "done 2"),
     (A, "do add 10 0 0", "done 3"),
@@ -50,8 +50,8 @@ const SQUARE: [Exchange; 6] = [
     (B, "sync", "front 4"),
 ];
 
-// Three squares side by side.
-const GRID: [Exchange; 10] = [
+/// Three squares side by side.
+pub(crate) const GRID: [Exchange; 10] = [
     (A, "do add 0 0 0", "done 1"),
     (A, "do add 0 10 0", "done 2"),
     (A, "do add 0 20 0", "done 3"),

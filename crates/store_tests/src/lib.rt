@@ -5,8 +5,16 @@
 #[cfg(test)]
 mod conflicts;
 #[cfg(test)]
+mod crews;
+#[cfg(test)]
 mod plans;
+#[cfg(test)]
+mod readers;
+#[cfg(test)]
+mod runs;
 #[cfg(test)]
 mod script;
 #[cfg(test)]
 mod site;
+#[cfg(test)]
+mod versions;

@@ -1,6 +1,6 @@
 //! A site: one store, and three crews with a session each.
 
-ghost use Rattle.std.specs.Prelude.{◌≡◌, ◌<◌, ◌^◌, true, length};
+ghost use Rattle.std.specs.Prelude.{◌≡◌, ◌<◌, ◌^◌, true, length, IfOk};
 ghost use Rattle.ground_num.specs.Head.{IsOrigin};
 ghost use Rattle.line_protocol.specs.Replies.{HasVolumeWithin};
 ghost use Rattle.turn_lock.specs.Journal.{IsPrefix};
@@ -16,7 +16,7 @@ use std::alloc::Global;
 use std::marker::{Brand, Model};
 use std::sync::ledger::{Blank, Ledger};
 use std::test::Fail;
-use store::Store;
+use store::{Store, Version};
 
 /// Who asks. Their sessions have the authors 1, 2 and 3.
 #[derive(Clone, Copy, Debug, PartialEq, Eq)]
@@ -24,6 +24,24 @@ pub(crate) enum Crew {
     A,
     B,
     C,
+}
+
+impl Crew {
+    /// The number of the crew's session, which is its author.
+    pub(crate) fn author(self) -> u16 {
+        match self {
+            Crew::A => 1,
+            Crew::B => 2,
+            Crew::C => 3,
+        }
+    }
+}
+
+/// What a line asks, None where it is no request within its limits.
+pub(crate) fn asked(alloc: Global, line: &str) -> Option<Request>
+    requires { length line.now < 2 ^ 32 }
+{
+    read_request(alloc, line.as_bytes(), &zero()).ok()
 }
 
 /// One store and the sessions of its crews.
@@ -55,13 +73,20 @@ fn zero() -> Origin
     }
 }
 
-fn ground(alloc: Global) -> Result<Store, Fail> {
-    let head = Head {
+/// The head of each surface here.
+pub(crate) fn head(alloc: Global) -> Result<Head, Fail>
+    ensures { IfOk result (λ head. IsOrigin head.origin) }
+{
+    Ok(Head {
         name: Name::from_bytes(alloc, b"ground")?,
         unit: LinearUnit::Meter,
         origin: zero(),
-    };
-    Ok(Store::empty(alloc, head, Limits::FULL)?)
+    })
+}
+
+fn ground(alloc: Global, limits: Limits) -> Result<Store, Fail> {
+    let head = head(alloc)?;
+    Ok(Store::empty(alloc, head, limits)?)
 }
 
 // What a turn does to the store and to the session, without the clauses on its reply.
@@ -98,8 +123,8 @@ fn answer(store: &mut Store, session: &mut Session, request: Request) -> Reply
 
 impl Site {
     /// An empty surface, which each crew holds.
-    pub(crate) fn new(alloc: Global) -> Result<Site, Fail> {
-        let store = ground(alloc)?;
+    pub(crate) fn new(alloc: Global, limits: Limits) -> Result<Site, Fail> {
+        let store = ground(alloc, limits)?;
         let a = Session::start(1, store.newest()?);
         let b = Session::start(2, store.newest()?);
         let c = Session::start(3, store.newest()?);
@@ -114,6 +139,11 @@ impl Site {
             Crew::B => answer(&mut self.store, &mut self.b, request),
             Crew::C => answer(&mut self.store, &mut self.c, request),
         }
+    }
+
+    /// The version that A holds.
+    pub(crate) fn held(&self) -> &Version {
+        self.a.version()
     }
 
     /// The reply to a crew's line.

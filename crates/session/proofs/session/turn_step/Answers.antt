@@ -15,10 +15,10 @@ returns-clause-step g c =
           (subst (λ d. Ends c.begin_turn.new.session c.end_turn.new.session d c.end_turn.result) w.done-is c.end_turn.ensures.ends))
       | in-Commit w ↦ subst (λ (s : StoreView). TurnStep (c.args.store.now.journal, s.journal) c.args.session.now c.end_turn.new.session c.args.request c.end_turn.result) (sym w.store-is)
           (turn-commit c.session.inside.author c.args.session.now c.begin_turn.new.session c.end_turn.new.session c.args.store.now.journal _ c.args.request w.in-Commit.plan _ c.end_turn.result own
-          (subst (Begins c.args.session.now c.begin_turn.new.session c.args.request) w.in-Commit.is c.begin_turn.ensures) w.commit.ensures
+          (subst (Begins c.args.session.now c.begin_turn.new.session c.args.request) w.in-Commit.is c.begin_turn.ensures) w.commit.ensures.answer
           (subst (λ d. Ends c.begin_turn.new.session c.end_turn.new.session d c.end_turn.result) w.done-is c.end_turn.ensures.ends))
       | in-Apply w ↦ subst (λ (s : StoreView). TurnStep (c.args.store.now.journal, s.journal) c.args.session.now c.end_turn.new.session c.args.request c.end_turn.result) (sym w.store-is)
           (turn-apply c.session.inside.author c.args.session.now c.begin_turn.new.session c.end_turn.new.session c.args.store.now.journal _ c.args.request w.in-Apply.edit _ c.end_turn.result own
-          (subst (Begins c.args.session.now c.begin_turn.new.session c.args.request) w.in-Apply.is c.begin_turn.ensures) w.apply.ensures
+          (subst (Begins c.args.session.now c.begin_turn.new.session c.args.request) w.in-Apply.is c.begin_turn.ensures) w.apply.ensures.answer
           (subst (λ d. Ends c.begin_turn.new.session c.end_turn.new.session d c.end_turn.result) w.done-is c.end_turn.ensures.ends))
     ]

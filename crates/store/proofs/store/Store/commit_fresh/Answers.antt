@@ -7,8 +7,8 @@ use Rattle.store.specs.Answers.{answer_at}
 use Rattle.store.proofs.Answered.{answer-done}
 use Rattle.store.proofs.store.Store.commit_fresh.Goals as goal
 
-pub returns-in-Ok-enter : goal.returns-in-Ok-enter
-returns-in-Ok-enter g c =
+pub returns-in-Ok-enter-clause-answer : goal.returns-in-Ok-enter-clause-answer
+returns-in-Ok-enter-clause-answer g c =
     let here : c.self.inside.newest.journal ≡ c.args.self.now.journal = rw (← c.self.view_is) refl in
     let lawful : newest_refusal c.args.self.now.journal c.args.plan.edit ≡ None = subst (λ j. newest_refusal j c.args.plan.edit ≡ None) c.requires c.made.ensures.lawful in
     let line : c.new_line-line.result ≡ given_number (content_of c.args.self.now.journal.entries) c.args.plan.edit = c.new_line-line.ensures ∙ (λ i. given_number (content_of (here i).entries) (c.edit.ensures i)) in (
