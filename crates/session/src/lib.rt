@@ -4,6 +4,7 @@
 
 mod conversation;
 mod line;
+mod queries;
 mod session;
 
 pub use conversation::{Ended, talk};
