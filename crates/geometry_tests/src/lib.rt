@@ -3,6 +3,8 @@
 #![tactic(auto)]
 
 #[cfg(test)]
+mod cuts;
+#[cfg(test)]
 mod fixtures;
 #[cfg(test)]
 mod kept_facets;
@@ -13,8 +15,12 @@ mod lines;
 #[cfg(test)]
 mod model;
 #[cfg(test)]
+mod reliefs;
+#[cfg(test)]
 mod sheets;
 #[cfg(test)]
 mod slots;
 #[cfg(test)]
 mod triangles;
+#[cfg(test)]
+mod volumes;
