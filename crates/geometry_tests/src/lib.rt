@@ -5,6 +5,8 @@
 #[cfg(test)]
 mod crossings;
 #[cfg(test)]
+mod cuts;
+#[cfg(test)]
 mod far_corners;
 #[cfg(test)]
 mod fixtures;
@@ -21,8 +23,12 @@ mod model;
 #[cfg(test)]
 mod places;
 #[cfg(test)]
+mod reliefs;
+#[cfg(test)]
 mod sheets;
 #[cfg(test)]
 mod slots;
 #[cfg(test)]
 mod triangles;
+#[cfg(test)]
+mod volumes;

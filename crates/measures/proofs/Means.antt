@@ -28,12 +28,12 @@ int_div_euclid-floor (pos a) (negsuc b) h = absurd (omega (arith, ints, h))
 int_div_euclid-floor (negsuc a) (negsuc b) h = absurd (omega (arith, ints, h))
 
 -- ---- products keep an order
-mul-nonneg : (x y : ℤ) → pos 0 ≤ℤ x → pos 0 ≤ℤ y → pos 0 ≤ℤ (x *ℤ y)
+pub mul-nonneg : (x y : ℤ) → pos 0 ≤ℤ x → pos 0 ≤ℤ y → pos 0 ≤ℤ (x *ℤ y)
 mul-nonneg (pos a) (pos b) h k = omega (arith, ints)
 mul-nonneg (negsuc a) y h k = absurd (omega (arith, ints, h))
 mul-nonneg (pos a) (negsuc b) h k = absurd (omega (arith, ints, k))
 
-mul-le : (x y w : ℤ) → x ≤ℤ y → pos 0 ≤ℤ w → (x *ℤ w) ≤ℤ (y *ℤ w)
+pub mul-le : (x y w : ℤ) → x ≤ℤ y → pos 0 ≤ℤ w → (x *ℤ w) ≤ℤ (y *ℤ w)
 mul-le x y w h k = omega (arith, ints, mul-nonneg (y -ℤ x) w (omega (arith, ints)) k, ring (x ∷ y ∷ w ∷ []) ((var 1 ⊖ var 0) ⊗ var 2) (var 1 ⊗ var 2 ⊖ var 0 ⊗ var 2) refl)
 
 -- ---- the mean
@@ -41,7 +41,7 @@ twice : (a : ℤ) → pos 0 <ℤ a → pos 0 <ℤ (pos 2 *ℤ a)
 twice a h = omega (arith, ints)
 
 -- a multiple that is less than the next one after another is no more than this
-cancelled : (x y w : ℤ) → pos 0 <ℤ w → (w *ℤ x) <ℤ (w *ℤ y +ℤ w) → x ≤ℤ y
+pub cancelled : (x y w : ℤ) → pos 0 <ℤ w → (w *ℤ x) <ℤ (w *ℤ y +ℤ w) → x ≤ℤ y
 cancelled x y w h less = by_lt_z y x
     (λ more. absurd (beyond (mul-le (y +ℤ pos 1) x w (omega (arith, ints)) (omega (arith, ints)))))
     (λ le. le)
@@ -53,11 +53,11 @@ cancelled x y w h less = by_lt_z y x
 doubled : (l a : ℤ) → (pos 2 *ℤ a) *ℤ l ≡ pos 2 *ℤ (l *ℤ a)
 doubled l a = ring (l ∷ a ∷ []) ((num (pos 2) ⊗ var 1) ⊗ var 0) (num (pos 2) ⊗ (var 0 ⊗ var 1)) refl
 
-rounded-le : (l s a : ℤ) → pos 0 <ℤ a → s ≤ℤ (l *ℤ a) → rounded_half_up s a ≤ℤ l
+pub rounded-le : (l s a : ℤ) → pos 0 <ℤ a → s ≤ℤ (l *ℤ a) → rounded_half_up s a ≤ℤ l
 rounded-le l s a h below = cancelled (rounded_half_up s a) l (pos 2 *ℤ a) (twice a h)
     (omega (arith, ints, h, below, doubled l a, floor_div-le (pos 2 *ℤ s +ℤ a) (pos 2 *ℤ a) (twice a h)))
 
-rounded-ge : (l s a : ℤ) → pos 0 <ℤ a → (l *ℤ a) ≤ℤ s → l ≤ℤ rounded_half_up s a
+pub rounded-ge : (l s a : ℤ) → pos 0 <ℤ a → (l *ℤ a) ≤ℤ s → l ≤ℤ rounded_half_up s a
 rounded-ge l s a h above = cancelled l (rounded_half_up s a) (pos 2 *ℤ a) (twice a h)
     (omega (arith, ints, h, above, doubled l a, floor_div-more (pos 2 *ℤ s +ℤ a) (pos 2 *ℤ a) (twice a h)))
 

@@ -1,1 +1,2 @@
 pub mod SlopeList
+pub mod Volumes

@@ -140,8 +140,8 @@ tells_request set h pending (asks.Plan e) reply is = tells_by set h None reply _
 tells_request set h None asks.Commit reply is = rw is tt
 tells_request set h (Some plan) asks.Commit reply is = tells_by set h (Some plan.edit) reply _ is (tells_answer set.limits h plan.edit (conflict h plan.base plan.edit) _ refl)
 tells_request set h pending (asks.Level p) reply is = rw is refl
-tells_request set h pending (asks.Contour z) reply is = rw is tt
-tells_request set h pending (asks.Volume z) reply is = rw is tt
+tells_request set h pending (asks.Contour z) reply is = rw is refl
+tells_request set h pending (asks.Volume z) reply is = rw is refl
 tells_request set h pending asks.Export reply is = rw is tt
 
 tells_within : (set : Setting) (h : List Entry) (pending : Option Pending) (r : Option Request) (reply : Reply) → IsAnswerWithin set h pending r reply → TellsOf set h (edit_made pending r) reply

@@ -8,11 +8,13 @@ use Rattle.ground_model.specs.Refusal.{refusal}
 use Rattle.ground_model.specs.Zone.{zone}
 use Rattle.ground_model.specs.History.{content_of}
 use Rattle.ground_model.specs.Level.{level_at}
+use Rattle.ground_model.specs.Contour.{contour_at}
+use Rattle.ground_model.specs.Volume.{volume_over}
 use Rattle.ground_model.specs.Slope.{relief}
 use Rattle.ground_model.specs.Answer as answers
 use Rattle.ground_model.specs.Answer.{Answer, Pending, answer}
 use Rattle.line_protocol.specs.declared.reply.Reply.{Reply}
-use Rattle.line_protocol.specs.declared.reply.Reply.TheVariants.{Held, Planned, Done, Conflict, Refused, Level, Stat, Bye, NoPlan, Unbuilt}
+use Rattle.line_protocol.specs.declared.reply.Reply.TheVariants.{Held, Planned, Done, Conflict, Refused, Level, Contour, Volume, Stat, Bye, NoPlan, Unbuilt}
 use Rattle.line_protocol.specs.declared.request.Request.{Request}
 use Rattle.line_protocol.specs.declared.request.Request.TheVariants as asks
 use Rattle.turn_lock.specs.Setting.{Setting}
@@ -42,6 +44,6 @@ IsReply set h pending asks.Quit reply = reply ≡ Bye
 IsReply set h pending asks.Sync reply = reply ≡ Held (length h)
 IsReply set h pending (asks.Plan edit) reply = reply ≡ to_plan h edit (refusal (content_of h) (length h) set.limits edit)
 IsReply set h pending asks.Commit reply = reply ≡ to_commit set h pending
-IsReply set h pending (asks.Contour z) reply = reply ≡ Unbuilt
-IsReply set h pending (asks.Volume z) reply = reply ≡ Unbuilt
+IsReply set h pending (asks.Contour z) reply = reply ≡ Contour (length h) (contour_at (relief (content_of h)) z)
+IsReply set h pending (asks.Volume z) reply = reply ≡ Volume (length h) (volume_over (relief (content_of h)) z)
 IsReply set h pending asks.Export reply = reply ≡ Unbuilt

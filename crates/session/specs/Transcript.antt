@@ -54,14 +54,14 @@ abbrev pub IsFrontFor : Option ℕ → Option Spoken → ℕ → Type 0
 IsFrontFor shown None front = ⊤
 IsFrontFor shown (Some s) front = IsFrontBy (reading s) shown front
 
--- whether a request within its limits takes memory at the history h, where this plan is pending: a version that is held takes some, and so does an edit that is planned, where it is lawful or a new line
+-- whether a request within its limits takes memory at the history h, where this plan is pending: a version that is held takes some, so does an edit that is planned, where it is lawful or a new line, and so do the cuts of a contour
 abbrev pub takes_memory : Limits → List Entry → Option Pending → Request → Bool
 takes_memory limits h pending asks.Sync = true
 takes_memory limits h pending (asks.Plan edit) = takes_room limits h edit
 takes_memory limits h pending asks.Commit = is_some pending
 takes_memory limits h pending (asks.Apply edit) = true
 takes_memory limits h pending (asks.Level p) = false
-takes_memory limits h pending (asks.Contour z) = false
+takes_memory limits h pending (asks.Contour z) = true
 takes_memory limits h pending (asks.Volume z) = false
 takes_memory limits h pending asks.Stat = false
 takes_memory limits h pending asks.Export = false

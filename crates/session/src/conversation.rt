@@ -72,7 +72,12 @@ fn turn_on<L: Ledger>(
 
 // The reply to a request within its limits, of the one session of the store, which holds its newest
 // version.
-fn reply_to_request(store: &mut Store, session: &mut Session, request: Request) -> Reply
+fn reply_to_request(
+    alloc: Global,
+    store: &mut Store,
+    session: &mut Session,
+    request: Request,
+) -> Reply
     requires { session.old.journal ≡ store.old.journal }
     ensures serves { Serves session.old.author (position store.old.journal session.old, position store.new.journal session.new) request result }
     ensures held { session.new.journal ≡ store.new.journal }
@@ -82,7 +87,7 @@ fn reply_to_request(store: &mut Store, session: &mut Session, request: Request) 
     if needs_turn(session, &request) {
         turn_on::<Brand>(store, session, request, Blank::new(1))
     } else {
-        own_step(session, request)
+        own_step(alloc, session, request)
     }
 }
 
@@ -96,7 +101,7 @@ fn reply_to_line(alloc: Global, store: &mut Store, session: &mut Session, line: 
     ensures volume { HasVolumeWithin result }
 {
     match read_request(alloc, line, origin(session)) {
-        Ok(request) => reply_to_request(store, session, request),
+        Ok(request) => reply_to_request(alloc, store, session, request),
         Err(LineFault::Syntax(offset)) => Reply::Syntax(offset),
         Err(LineFault::Range) => Reply::Range,
         Err(LineFault::Memory) => Reply::Memory,

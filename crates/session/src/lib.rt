@@ -5,6 +5,7 @@
 mod conversation;
 mod law;
 mod line;
+mod queries;
 mod session;
 
 pub use conversation::{Ended, talk};

@@ -10,11 +10,12 @@ ghost use Rattle.turn_lock.specs.Journal.{IsPrefix};
 ghost use Rattle.store.specs.Versions.{as_pending};
 ghost use Rattle.session.specs.Sessions.{OwnStep, TurnStep, Begins, MayEnd, Ends, IsUnplanned, takes_turn};
 
+use crate::queries::{contour_reply, volume_reply};
 use ground_model::Edit;
 use line_protocol::{Reply, Request};
 use measures::level;
 use page_vec::Steps;
-use std::alloc::AllocError;
+use std::alloc::{AllocError, Global};
 use std::marker::Model;
 use std::sync::ledger::Ledger;
 use store::{Applied, Commit, Plan, PlanFault, Store, Version};
@@ -136,7 +137,7 @@ pub fn needs_turn(session: &Session, request: &Request) -> bool
 }
 
 /// Answers a request that takes no turn, at the held version. It touches no store.
-pub fn own_step(session: &mut Session, request: Request) -> Reply
+pub fn own_step(alloc: Global, session: &mut Session, request: Request) -> Reply
     requires { takes_turn session.old.pending request ≡ false }
     ensures step { OwnStep session.old session.new request result }
     ensures volume { HasVolumeWithin result }
@@ -151,7 +152,9 @@ pub fn own_step(session: &mut Session, request: Request) -> Reply
             session.version.lines(),
         ),
         Request::Quit => Reply::Bye,
-        Request::Contour(_) | Request::Volume(_) | Request::Export => Reply::Unbuilt,
+        Request::Contour(level) => contour_reply(alloc, &session.version, level),
+        Request::Volume(datum) => volume_reply(&session.version, datum),
+        Request::Export => Reply::Unbuilt,
         Request::Sync | Request::Apply(_) => unreachable!(),
     }
 }

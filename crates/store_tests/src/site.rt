@@ -108,7 +108,7 @@ fn take_turn<L: Ledger>(
     turn_step(store, session, request, &mut Steps::<L>::new(blank))
 }
 
-fn answer(store: &mut Store, session: &mut Session, request: Request) -> Reply
+fn answer(alloc: Global, store: &mut Store, session: &mut Session, request: Request) -> Reply
     requires { IsPrefix session.old.journal store.old.journal }
     ensures grows { IsPrefix store.old.journal store.new.journal }
     ensures holds { IsPrefix session.new.journal store.new.journal }
@@ -117,7 +117,7 @@ fn answer(store: &mut Store, session: &mut Session, request: Request) -> Reply
     if needs_turn(session, &request) {
         take_turn::<Brand>(store, session, request, Blank::new(1))
     } else {
-        own_step(session, request)
+        own_step(alloc, session, request)
     }
 }
 
@@ -131,13 +131,13 @@ impl Site {
         Ok(Site { store, a, b, c })
     }
 
-    fn answer(&mut self, crew: Crew, request: Request) -> Reply
+    fn answer(&mut self, alloc: Global, crew: Crew, request: Request) -> Reply
         ensures { HasVolumeWithin result }
     {
         match crew {
-            Crew::A => answer(&mut self.store, &mut self.a, request),
-            Crew::B => answer(&mut self.store, &mut self.b, request),
-            Crew::C => answer(&mut self.store, &mut self.c, request),
+            Crew::A => answer(alloc, &mut self.store, &mut self.a, request),
+            Crew::B => answer(alloc, &mut self.store, &mut self.b, request),
+            Crew::C => answer(alloc, &mut self.store, &mut self.c, request),
         }
     }
 
@@ -152,7 +152,7 @@ impl Site {
         ensures { HasVolumeWithin result }
     {
         match read_request(alloc, line.as_bytes(), &zero()) {
-            Ok(request) => self.answer(crew, request),
+            Ok(request) => self.answer(alloc, crew, request),
             Err(LineFault::Syntax(offset)) => Reply::Syntax(offset),
             Err(LineFault::Range) => Reply::Range,
             Err(LineFault::Memory) => Reply::Memory,

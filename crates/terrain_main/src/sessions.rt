@@ -3,7 +3,7 @@
 ghost use Rattle.std.specs.Prelude.{◌≤◌, IfOk};
 
 use crate::refusal_texts::{AFTER_DIAGONAL, AFTER_END, AFTER_JOINT, AFTER_POINT, AFTER_SQUARE};
-use crate::session_texts::{CROSSINGS, LINES, POINTS, RINGS};
+use crate::session_texts::{CROSSINGS, LINES, MEASURES, POINTS, RINGS};
 use ground_io::{Link, MemLink};
 use ground_model::Limits;
 use ground_num::{Head, LinearUnit, Name, Origin, Thousandths};
@@ -69,13 +69,16 @@ impl Script {
         Ok(())
     }
 
-    // A request and its reply, or else points.
+    // A request and its reply, whose lines ` / ` parts, or else points.
     fn add_row(&mut self, row: &str) -> Result<(), Fail> {
         let Some((request, reply)) = row.split_once('|') else {
             return self.add_points(row);
         };
         push_line(&mut self.input, request)?;
-        Ok(push_line(&mut self.output, reply)?)
+        for line in reply.split(" / ") {
+            push_line(&mut self.output, line)?;
+        }
+        Ok(())
     }
 
     fn add_rows(&mut self, rows: &str) -> Result<(), Fail> {
@@ -140,7 +143,7 @@ fn run_sessions(rt: &impl Abort, alloc: Global, texts: &str) -> Result<(), Fail>
 
 #[test]
 fn sessions_give_the_worked_replies(rt: HostRuntime) -> Result<(), Fail> {
-    for texts in [POINTS, LINES, RINGS, CROSSINGS] {
+    for texts in [POINTS, MEASURES, LINES, RINGS, CROSSINGS] {
         run_sessions(&rt, rt.alloc(), texts)?;
     }
     Ok(())

@@ -7,7 +7,7 @@ use Rattle.ground_model.specs.declared.slope.Slope.{Slope}
 use Rattle.ground_model.specs.Place.{Coords, is_same}
 use Rattle.ground_model.specs.Side.{is_left}
 use Rattle.measures.specs.SlopeList.{IsRelief, level_in}
-use Rattle.geometry_tests.proofs.levels.list_of.Goals as goal
+use Rattle.geometry_tests.proofs.reliefs.list_of.Goals as goal
 
 all_sole : {X : Type 0} (P : X → Type 0) (x : X) → P x → All P (x ∷ [])
 all_sole P x h zero d lt = h
