@@ -10,9 +10,11 @@ use Rattle.ground_model.specs.declared.refusal.Refusal.{Refusal}
 use Rattle.ground_model.specs.Answer as answers
 use Rattle.ground_model.specs.Answer.{Answer, Pending, answer, conflict, by_conflict, next_entry}
 use Rattle.ground_model.specs.History.{content_of}
+use Rattle.ground_model.specs.Contour.{contour_at}
 use Rattle.ground_model.specs.Level.{level_at}
 use Rattle.ground_model.specs.Refusal.{refusal}
 use Rattle.ground_model.specs.Slope.{relief}
+use Rattle.ground_model.specs.Volume.{volume_over}
 use Rattle.ground_model.specs.Zone.{zone}
 use Rattle.line_protocol.specs.declared.reply.Reply.{Reply}
 use Rattle.line_protocol.specs.declared.reply.Reply.TheVariants as replies
@@ -198,6 +200,8 @@ module _ (set : Setting) (author : ℕ) (h : List Entry) (has : Holding) (within
 
   read_move : (query : Query) → OwnMove set author h has (request_to_read query) (record { history = h; holding = has; reply = read has.front (content_of (take has.front h)) query })
   read_move (queries.Level p) = read_by (asks.Level p) _ refl refl refl (ap (λ n. replies.Level n (level_at (relief (content_of (take has.front h))) p)) (sym held_length)) refl refl refl
+  read_move (queries.Contour z) = read_by (asks.Contour z) _ refl refl refl (ap (λ n. replies.Contour n (contour_at (relief (content_of (take has.front h))) z)) (sym held_length)) refl refl refl
+  read_move (queries.Volume z) = read_by (asks.Volume z) _ refl refl refl (ap (λ n. replies.Volume n (volume_over (relief (content_of (take has.front h))) z)) (sym held_length)) refl refl refl
   read_move queries.Stat = read_by asks.Stat _ refl refl refl (ap (λ n. replies.Stat n (finmap.len (content_of (take has.front h)).points) (finmap.len (content_of (take has.front h)).table.lines)) (sym held_length)) refl refl refl
 
   hold_move : OwnMove set author h has asks.Sync (held h has)

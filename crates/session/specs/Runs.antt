@@ -19,6 +19,8 @@ use Rattle.session.specs.Transcript.{Transcript}
 -- the request that reads the same
 abbrev pub request_to_read : Query → Request
 request_to_read (queries.Level p) = asks.Level p
+request_to_read (queries.Contour z) = asks.Contour z
+request_to_read (queries.Volume z) = asks.Volume z
 request_to_read queries.Stat = asks.Stat
 
 -- the request that asks for an event

@@ -8,13 +8,15 @@ use Rattle.ground_model.specs.declared.refusal.Refusal.{Refusal}
 use Rattle.ground_model.specs.Answer as answers
 use Rattle.ground_model.specs.Answer.{Answer, Pending, answer, next_entry}
 use Rattle.ground_model.specs.Content.{Content}
+use Rattle.ground_model.specs.Contour.{contour_at}
 use Rattle.ground_model.specs.History.{content_of}
 use Rattle.ground_model.specs.Level.{level_at}
 use Rattle.ground_model.specs.Refusal.{refusal}
 use Rattle.ground_model.specs.Slope.{relief}
+use Rattle.ground_model.specs.Volume.{volume_over}
 use Rattle.ground_model.specs.Zone.{zone}
 use Rattle.store.specs.declared.event.CoreReply.{CoreReply}
-use Rattle.store.specs.declared.event.CoreReply.TheVariants.{Held, Planned, Done, Conflict, Refused, Level, Stat, NoPlan}
+use Rattle.store.specs.declared.event.CoreReply.TheVariants.{Held, Planned, Done, Conflict, Refused, Level, Contour, Volume, Stat, NoPlan}
 use Rattle.store.specs.declared.event.Event.{Event}
 use Rattle.store.specs.declared.event.Event.TheVariants.{Hold, Plan, Commit, Apply, Read}
 use Rattle.store.specs.declared.event.Query.{Query}
@@ -97,6 +99,8 @@ applied limits s h has edit = answered s h has.pending edit (answer limits h (le
 -- what is read of a content
 abbrev pub read : ℕ → Content → Query → CoreReply
 read front c (asks.Level p) = Level front (level_at (relief c) p)
+read front c (asks.Contour z) = Contour front (contour_at (relief c) z)
+read front c (asks.Volume z) = Volume front (volume_over (relief c) z)
 read front c asks.Stat = Stat front (map.len c.points) (map.len c.table.lines)
 
 -- one event of a session that has this

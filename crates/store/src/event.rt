@@ -10,6 +10,10 @@ use ground_model::{Cuts, Edit, Level, LineId, Mark, Place, Refusal, Volume};
 pub enum Query {
     /// The level at a place.
     Level(Place),
+    /// The cuts of the kept facets at a level.
+    Contour(Level),
+    /// The volumes above and below a level.
+    Volume(Level),
     /// The numbers of points and of live lines.
     Stat,
 }

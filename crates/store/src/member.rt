@@ -17,8 +17,9 @@ use crate::plan::{Plan, PlanFault};
 use crate::state::copied;
 use crate::store::Store;
 use crate::version::Version;
+use contours::contour;
 use ground_model::Edit;
-use measures::level;
+use measures::{level, volume};
 use page_vec::Steps;
 use std::alloc::{AllocError, Global};
 use std::marker::Model;
@@ -155,13 +156,19 @@ impl Member {
     }
 
     /// Reads the held version.
-    pub(crate) fn read(&self, query: &Query) -> CoreReply
-        ensures { result ≡ read (length self.now.journal.entries) (content_of self.now.journal.entries) query.now }
+    pub(crate) fn read(&self, alloc: Global, query: &Query) -> Result<CoreReply, AllocError>
+        ensures { IfOk result (λ reply. reply ≡ read (length self.now.journal.entries) (content_of self.now.journal.entries) query.now) }
     {
         let front = self.version.front();
         match query {
-            Query::Level(place) => CoreReply::Level(front, level(&self.version, *place)),
-            Query::Stat => CoreReply::Stat(front, self.version.points(), self.version.lines()),
+            Query::Level(place) => Ok(CoreReply::Level(front, level(&self.version, *place))),
+            Query::Contour(level) => {
+                Ok(CoreReply::Contour(front, contour(alloc, &self.version, *level)?))
+            }
+            Query::Volume(datum) => Ok(CoreReply::Volume(front, volume(&self.version, *datum))),
+            Query::Stat => {
+                Ok(CoreReply::Stat(front, self.version.points(), self.version.lines()))
+            }
         }
     }
 }

@@ -78,7 +78,7 @@ impl Run {
                 let edit = copied(self.alloc, edit)?;
                 member.apply(*session, edit, &mut self.store, steps)
             }
-            Event::Read(_, query) => Ok(member.read(query)),
+            Event::Read(_, query) => member.read(self.alloc, query),
         }
     }
 
