@@ -50,7 +50,7 @@ rim_one_way third third e f = cc
 
 module _ (slots : List State) (m : IsSheetMesh slots) where
   -- so the reverse of an edge of the rim is that of a triangle
-  real_back : (i : ℕ) (l : Side) (e : Edge) (r : ℕ) (v : Side) (w : TriSlot) → i ≡ outside → edges_of (slots_of slots) i l ≡ Some e → slots_of slots r ≡ Some w → corner_at w v ≡ e.head → corner_at w (after v) ≡ e.tail → triangle_at slots r ≡ Some w
+  pub real_back : (i : ℕ) (l : Side) (e : Edge) (r : ℕ) (v : Side) (w : TriSlot) → i ≡ outside → edges_of (slots_of slots) i l ≡ Some e → slots_of slots r ≡ Some w → corner_at w v ≡ e.head → corner_at w (after v) ≡ e.tail → triangle_at slots r ≡ Some w
   real_back i l e r v w out is h tail head = elim (cases_eq r outside) as (λ _. triangle_at slots r ≡ Some w) [
     | inl r_out ↦
         let is_rim : rim ≡ w = same_in rim w (sym (ap (slots_of slots) r_out) ∙ h) in
@@ -74,7 +74,7 @@ module _ (slots : List State) (m : IsSheetMesh slots) where
   as_first p y x = subst (λ (c : Corner). InNet (net_in slots) c (corner_at x.tri (after x.side)) (apex x.tri x.side)) x.is (in_net x.slot x.tri x.side x.there)
 
   -- a corner in a closed triangle is its corner
-  only_corner : (s : ℕ) (t : TriSlot) (k : Side) (p : Coords) → triangle_at slots s ≡ Some t → IsPlace p → HasCorner slots (At p)
+  pub only_corner : (s : ℕ) (t : TriSlot) (k : Side) (p : Coords) → triangle_at slots s ≡ Some t → IsPlace p → HasCorner slots (At p)
       → pos 0 ≤ℤ corner_side (corner_at t k) (corner_at t (after k)) (At p) → pos 0 ≤ℤ corner_side (corner_at t (after k)) (apex t k) (At p) → pos 0 ≤ℤ corner_side (apex t k) (corner_at t k) (At p)
       → (At p ≡ corner_at t k) ⊎ ((At p ≡ corner_at t (after k)) ⊎ (At p ≡ apex t k))
   only_corner s t k p there place x ab bc ca =

@@ -14,6 +14,7 @@ pub mod InSheets
 pub mod InstallRuns
 pub mod Installed
 pub mod Laying
+pub mod LineSides
 pub mod Lists
 pub mod NamedEdges
 pub mod NetOfMesh
@@ -29,6 +30,7 @@ pub mod Slots
 pub mod Splits
 pub mod Stamps
 pub mod StepSheets
+pub mod Straights
 pub mod Takes
 pub mod Turned
 pub mod TurnedFaces

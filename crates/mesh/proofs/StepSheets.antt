@@ -149,7 +149,7 @@ pub counted_places : (t : TriSlot) (k : Side) → IsTurned t → 0 < count_at t 
 counted_places t k x h far = omega (arith, h, x.uncounted k far)
 
 -- where nothing stands across an edge, it is one of the rim, the other way
-rim_side : (slots : List State) (m : IsSheetMesh slots) (s : ℕ) (t : TriSlot) (k : Side) → triangle_at slots s ≡ Some t → next_at t k ≡ outside → (v : Side) × (corner_at rim v ≡ corner_at t (after k)) × (corner_at rim (after v) ≡ corner_at t k)
+pub rim_side : (slots : List State) (m : IsSheetMesh slots) (s : ℕ) (t : TriSlot) (k : Side) → triangle_at slots s ≡ Some t → next_at t k ≡ outside → (v : Side) × (corner_at rim v ≡ corner_at t (after k)) × (corner_at rim (after v) ≡ corner_at t k)
 rim_side slots m s t k there out =
     let x = m.mesh.net.met s k (edge t k) (ap (λ o. edge_of o k) (standing slots m.mesh s t there)) in
     let o = owner (slots_of slots x.slot) x.side x.edge x.there in

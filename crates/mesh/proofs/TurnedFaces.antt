@@ -118,17 +118,17 @@ end_turned t k p x place on = record {
 }
 
 -- the side of p and q at x, by those at the corners a, b and c
-mixed : (p q a b c x : Coords) → side a b c *ℤ side p q x ≡ side b c x *ℤ side p q a +ℤ side c a x *ℤ side p q b +ℤ side a b x *ℤ side p q c
+pub mixed : (p q a b c x : Coords) → side a b c *ℤ side p q x ≡ side b c x *ℤ side p q a +ℤ side c a x *ℤ side p q b +ℤ side a b x *ℤ side p q c
 unfolding side
 mixed p q a b c x = ring (env (p ∷ q ∷ a ∷ b ∷ c ∷ x ∷ [])) (sideE 2 3 4 ⊗ sideE 0 1 5) (sideE 3 4 5 ⊗ sideE 0 1 2 ⊕ sideE 4 2 5 ⊗ sideE 0 1 3 ⊕ sideE 2 3 5 ⊗ sideE 0 1 4) refl
 
-factor : (s w : ℤ) → pos 0 <ℤ s → pos 0 <ℤ (s *ℤ w) → pos 0 <ℤ w
+pub factor : (s w : ℤ) → pos 0 <ℤ s → pos 0 <ℤ (s *ℤ w) → pos 0 <ℤ w
 factor s w h k = by_lt_z (pos 0) w (λ lt. lt) (λ le. absurd (never-low (s *ℤ w) k (mul-mixed s w (weaken s h) le)))
 
-first_alone : (r u v w : ℤ) → r ≡ u +ℤ v +ℤ w → pos 0 <ℤ u → v ≡ pos 0 → w ≡ pos 0 → pos 0 <ℤ r
+pub first_alone : (r u v w : ℤ) → r ≡ u +ℤ v +ℤ w → pos 0 <ℤ u → v ≡ pos 0 → w ≡ pos 0 → pos 0 <ℤ r
 first_alone r u v w e f g h = omega (arith, ints, e, f, g, h)
 
-second_alone : (r u v w : ℤ) → r ≡ u +ℤ v +ℤ w → u ≡ pos 0 → pos 0 <ℤ v → w ≡ pos 0 → pos 0 <ℤ r
+pub second_alone : (r u v w : ℤ) → r ≡ u +ℤ v +ℤ w → u ≡ pos 0 → pos 0 <ℤ v → w ≡ pos 0 → pos 0 <ℤ r
 second_alone r u v w e f g h = omega (arith, ints, e, f, g, h)
 
 -- a place on ab, strictly between its ends, lies so on ba

@@ -44,3 +44,7 @@ IsUncounted slots s k = (t : TriSlot) → triangle_at slots s ≡ Some t → cou
 -- it joins two places
 abbrev pub JoinsPlaces : List State → ℕ → Side → Type 0
 JoinsPlaces slots s k = (t : TriSlot) → triangle_at slots s ≡ Some t → (is_far (corner_at t k) ≡ false) × (is_far (corner_at t (after k)) ≡ false)
+
+-- the corner k of slot s is a place
+abbrev pub IsPlaceAt : List State → ℕ → Side → Type 0
+IsPlaceAt slots s k = (t : TriSlot) → triangle_at slots s ≡ Some t → is_far (corner_at t k) ≡ false

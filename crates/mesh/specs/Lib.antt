@@ -18,6 +18,7 @@ pub mod SlotLists
 pub mod Splits
 pub mod Stamps
 pub mod Steps
+pub mod Straights
 pub mod Takes
 pub mod Turning
 pub mod Unsplits

@@ -6,6 +6,7 @@ mod across;
 mod count;
 mod count_steps;
 mod edge_find;
+mod edge_line;
 mod edge_split;
 mod edge_unsplit;
 mod flip;

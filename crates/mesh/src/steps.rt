@@ -1,16 +1,19 @@
 //! The mesh steps: each keeps a mesh.
 
-ghost use Rattle.std.specs.Prelude.{◌≡◌, ◌<◌, ◌+◌, ◌*◌, ◌^◌, ◌++◌, [], ◌∷◌, IfOk, OnOk};
+ghost use Rattle.std.specs.Prelude.{ℕ, ◌≡◌, ◌<◌, ◌+◌, ◌*◌, ◌^◌, ◌++◌, [], ◌∷◌, IfOk, OnOk};
 ghost use Rattle.ground_model.specs.declared.corner.Corner.TheVariants.{At};
 ghost use Rattle.mesh.specs.Acrosses.{IsInner};
-ghost use Rattle.mesh.specs.Insides.{IsInSlot, IsOnSlot, IsConvexAt, IsUncounted};
+ghost use Rattle.mesh.specs.Insides.{IsInSlot, IsOnSlot, IsConvexAt, IsPlaceAt, IsUncounted};
 ghost use Rattle.mesh.specs.Meshes.{IsLive, raised};
-ghost use Rattle.mesh.specs.Net.{side, after};
+ghost use Rattle.mesh.specs.Net.{Side, side, after};
 ghost use Rattle.mesh.specs.Sheets.{IsSheetMesh};
 ghost use Rattle.mesh.specs.Steps.{SplitStep, EdgeSplitStep, FlipStep, UnsplitStep};
+ghost use Rattle.mesh.specs.Straights.{EdgeUnsplitStep, IsLineSide, IsStraightAt};
 ghost use Rattle.mesh.specs.Unsplits.{IsUnsplittable};
 
+use crate::edge_line::line_edge;
 use crate::edge_split::split_edge_slots;
+use crate::edge_unsplit::unsplit_edge_slots;
 use crate::flip::flip_slots;
 use crate::mesh::Mesh;
 use crate::point_id::PointId;
@@ -163,6 +166,37 @@ impl Mesh {
             Blank::new(1),
         )?;
         script.note(slot)?;
+        self.turns = self.turns.saturating_add(1);
+        Ok(())
+    }
+
+    /// Takes out a corner that lies straight between two opposite ones of the four triangles round
+    /// it, whose edges to it have one count; the two other edges have none. Two triangles take the
+    /// place of the four, and the edge between them keeps the count. Which line is the straight one
+    /// is found by the slot, its neighbour and one count.
+    pub fn unsplit_edge(
+        &mut self,
+        slot: u32,
+        corner: u8,
+        script: &mut Script,
+    ) -> Result<(), AllocError>
+        requires corner { corner < 3 }
+        requires sheet { IsSheetMesh self.old.slots }
+        requires live { IsLive self.old.slots slot }
+        requires place { IsPlaceAt self.old.slots slot (side corner) }
+        requires straight { (n : ℕ) (j : Side) → IsLineSide self.old.slots slot (side corner) n j → IsStraightAt self.old.slots n j }
+        ensures sheet { OnOk result (IsSheetMesh self.new.slots) }
+        ensures unsplit { OnOk result (EdgeUnsplitStep self.old.slots self.new.slots slot (side corner) script.old script.new) }
+        ensures turns { OnOk result (self.new.turns ≡ raised self.old.turns) }
+    {
+        let line = line_edge::<Brand>(&self.pages, slot, corner, Blank::new(1));
+        let freed = unsplit_edge_slots::<Brand>(
+            &mut self.pages,
+            line.slot,
+            line.edge,
+            Blank::new(1),
+        )?;
+        note_two(script, line.slot, freed.beyond)?;
         self.turns = self.turns.saturating_add(1);
         Ok(())
     }
