@@ -170,10 +170,10 @@ impl Mesh {
         Ok(())
     }
 
-    /// Takes out a corner that lies straight between two opposite ones of the four triangles round
-    /// it, whose edges to it have one count; the two other edges have none. Two triangles take the
-    /// place of the four, and the edge between them keeps the count. Which line is the straight one
-    /// is found by the slot, its neighbour and one count.
+    /// Takes out a corner that has four neighbours and lies straight between two opposite ones. The
+    /// edges to these have one count, which the joined edge keeps; the two others have none. Two
+    /// triangles take the place of the four. Which two neighbours these are is found by a side and a
+    /// count.
     pub fn unsplit_edge(
         &mut self,
         slot: u32,
