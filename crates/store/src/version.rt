@@ -4,7 +4,8 @@ ghost use Rattle.std.specs.Prelude.{◌≡◌, ◌≤◌, ◌+◌, ◌^◌, true
 ghost use Rattle.std.specs.Option.{option_copied};
 ghost use Rattle.std.specs.FinMap as map;
 ghost use Rattle.ground_num.specs.Head.{IsOrigin};
-ghost use Rattle.ground_model.specs.Content.{level_of};
+ghost use Rattle.ground_model.specs.Content.{level_of, points_of};
+ghost use Rattle.ground_model.specs.Tri.{tri};
 ghost use Rattle.ground_model.specs.Answer.{has_changed as has_changed_since, given_number};
 ghost use Rattle.ground_model.specs.History.{content_of, born, IsLegal};
 ghost use Rattle.store.specs.Births.{birth_of};
@@ -91,6 +92,21 @@ impl Version {
         ensures { result ≡ map.len (content_of self.now.journal.entries).points }
     {
         self.state.get().surface().points() as u32
+    }
+
+    /// The places of the points, in place order. It takes memory for them.
+    pub fn places(&self) -> Result<Vec<Place>, AllocError>
+        ensures { IfOk result (λ places. places.items ≡ points_of (content_of self.now.journal.entries)) }
+    {
+        let state = self.state.get();
+        state.surface().places(state.alloc())
+    }
+
+    /// How many facets the surface has, kept or not.
+    pub fn facets(&self) -> u32
+        ensures { result ≡ length (tri (content_of self.now.journal.entries)) }
+    {
+        self.state.get().surface().facets().len() as u32
     }
 
     /// How many lines are live.
