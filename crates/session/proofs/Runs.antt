@@ -240,6 +240,8 @@ no_event_quits (events.Plan s edit) e = cc
 no_event_quits (events.Commit s) e = cc
 no_event_quits (events.Apply s edit) e = cc
 no_event_quits (events.Read s (queries.Level p)) e = cc
+no_event_quits (events.Read s (queries.Contour z)) e = cc
+no_event_quits (events.Read s (queries.Volume z)) e = cc
 no_event_quits (events.Read s queries.Stat) e = cc
 
 never_quits : (o : Origin) (lines : List (List ℕ)) (events : List Event) → AreTexts o lines events → QuitIsLast lines
