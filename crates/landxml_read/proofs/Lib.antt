@@ -6,6 +6,13 @@ pub mod Accepting
 pub mod Running
 pub mod Skipping
 pub mod Tags
+pub mod Contents
+pub mod Totals
+pub mod WordLists
+pub mod ReadValues
+pub mod Shown
+pub mod FaultTests
+pub mod Telling
 pub mod Accepted
 pub mod Scanning
 pub mod Examples
@@ -13,3 +20,4 @@ pub mod Sequences
 pub mod Encoded
 pub mod Depths
 pub mod Outlines
+pub mod Faulted

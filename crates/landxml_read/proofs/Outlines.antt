@@ -46,7 +46,7 @@ later P seen rest k begins f = by (nat_lt k (length seen)) refl
         absurd (f.not_allowed (omega (arith, length-append seen rest)) (subst Q (sym (take-append-le (k + 1) seen rest (omega arith))) (begins_take P seen (k + 1) begins)))
 
 -- what the bytes show is shown no sooner than where both stand
-shown_later : (seen rest : List ℕ) (g : Fault) → Begins IsUtf8 seen → Begins IsDocumentText seen → ShowsOutline (seen ++ rest) g → length seen ≤ g.show
+pub shown_later : (seen rest : List ℕ) (g : Fault) → Begins IsUtf8 seen → Begins IsDocumentText seen → ShowsOutline (seen ++ rest) g → length seen ≤ g.show
 shown_later seen rest g u d s = by g.cause s
   where
     by : (c : DocCause) → ShowsOutline (seen ++ rest) (record g { cause = c }) → length seen ≤ g.show

@@ -9,3 +9,5 @@ pub mod Answer
 pub mod Scan
 pub mod Utf8
 pub mod Outline
+pub mod Events
+pub mod Tokens

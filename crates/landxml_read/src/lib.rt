@@ -2,8 +2,12 @@
 //! It never asks what a place, a line or a face means.
 #![tactic(auto)]
 
+mod act;
+mod buffer;
 mod byte;
+mod element;
 mod fault;
+mod kind;
 mod list;
 mod markup;
 mod outline;
@@ -14,7 +18,9 @@ mod standing;
 mod tag;
 #[cfg(test)]
 mod tests;
+mod tokens;
 mod utf8;
+mod values;
 
 pub use fault::{DocCause, DocFault};
 pub use list::RawList;
