@@ -21,3 +21,5 @@ pub mod Encoded
 pub mod Depths
 pub mod Outlines
 pub mod Faulted
+pub mod Decodings
+pub mod Decimals

@@ -11,3 +11,4 @@ pub mod Utf8
 pub mod Outline
 pub mod Events
 pub mod Tokens
+pub mod Decoding

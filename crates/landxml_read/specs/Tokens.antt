@@ -51,6 +51,16 @@ act part.EndWhite part.Text = Closes
 act part.BracketCdata (part.In to) = Quotes
 act _ _ = Pass
 
+-- a byte that is kept of a tag
+abbrev pub IsOfTag : Act → Type 0
+IsOfTag BeginName = Unit {0}
+IsOfTag Name = Unit {0}
+IsOfTag BeginAttribute = Unit {0}
+IsOfTag Attribute = Unit {0}
+IsOfTag BeginValue = Unit {0}
+IsOfTag Value = Unit {0}
+IsOfTag _ = ⊥
+
 -- the kind of the innermost element
 abbrev pub kind_in : List Element → Kind
 kind_in [] = Outside

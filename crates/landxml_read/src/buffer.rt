@@ -38,6 +38,19 @@ impl Buffer {
         Ok(())
     }
 
+    /// What its memory comes from.
+    pub(crate) fn allocator(&self) -> Global {
+        *self.items.allocator()
+    }
+
+    /// Further bytes. After an error nothing is said of the bytes.
+    pub(crate) fn extend(&mut self, bytes: &[u8]) -> Result<(), AllocError>
+        ensures { OnOk result (self.new ≡ self.old ++ bytes.now) }
+    {
+        self.items.extend_from_slice(bytes)?;
+        Ok(())
+    }
+
     /// How many bytes there are.
     pub(crate) fn len(&self) -> usize
         ensures { result ≡ length self.now }

@@ -5,13 +5,16 @@
 mod act;
 mod buffer;
 mod byte;
+mod decode;
 mod element;
 mod fault;
 mod kind;
 mod list;
 mod markup;
+mod number;
 mod outline;
 mod raw;
+mod reference;
 mod scan;
 mod skipped;
 mod standing;

@@ -1,11 +1,15 @@
 //! The tag and the word that are open, and the elements round them.
 
 ghost use Rattle.std.specs.Prelude.{◌≡◌, ◌+◌, ◌<◌, ◌^◌, OnOk};
+ghost use Rattle.landxml_read.specs.declared.act.Act.TheVariants.{Letter, EndValue, Opens};
 ghost use Rattle.landxml_read.specs.Events.{finished, no_word, longer};
-ghost use Rattle.landxml_read.specs.Tokens.{kind_of, word_of, words_in, with_word, no_tokens};
+ghost use Rattle.landxml_read.specs.Tokens.{after, kind_of, word_of, words_in, with_word, no_tokens, IsOfTag};
 
+use crate::act::Act;
 use crate::buffer::Buffer;
-use crate::element::Stack;
+use crate::byte::is_white_byte;
+use crate::decode::decode;
+use crate::element::{Element, Stack};
 use crate::kind::Kind;
 use crate::values::Values;
 use std::alloc::{AllocError, Global};
@@ -76,5 +80,111 @@ impl Tokens {
         }
         self.word.push(b)?;
         Ok(())
+    }
+
+    // A byte of the text of an element.
+    fn letter(&mut self, offset: u32, b: u8) -> Result<(), AllocError>
+        requires { words_in self.old.stack + 1 < 2 ^ 32 }
+        ensures { OnOk result (self.new ≡ after Letter offset b self.old) }
+    {
+        if self.stack.kind().has_text() {
+            if is_white_byte(b) {
+                self.end_word();
+                Ok(())
+            } else {
+                self.lengthen(offset, b)
+            }
+        } else {
+            self.word.clear();
+            self.word_at = 0;
+            Ok(())
+        }
+    }
+
+    // The quote after a value.
+    fn end_value(&mut self) -> Result<(), AllocError>
+        ensures { OnOk result (self.new ≡ after EndValue 0 0 self.old) }
+    {
+        if self.is_read {
+            let text = decode(self.value.as_slice(), self.value.allocator())?;
+            self.values.add(text);
+        }
+        Ok(())
+    }
+
+    // The `>` of a start tag.
+    fn open(&mut self) -> Result<(), AllocError>
+        ensures { OnOk result (self.new ≡ after Opens 0 0 self.old) }
+    {
+        let kind = self.kind();
+        let name = self.name.copy()?;
+        self.stack.push(Element {
+            kind,
+            name,
+            words: 0,
+        })?;
+        Ok(())
+    }
+
+    // A byte of a tag or of the `<` before it.
+    fn in_tag(&mut self, act: Act, b: u8) -> Result<(), AllocError>
+        requires { IsOfTag act }
+        ensures { OnOk result (self.new ≡ after act 0 b self.old) }
+    {
+        match act {
+            Act::BeginName => {
+                self.name.clear();
+                self.name.push(b)?;
+                self.values = Values::none();
+                Ok(())
+            }
+            Act::Name => self.name.push(b),
+            Act::BeginAttribute => {
+                self.attribute.clear();
+                self.attribute.push(b)?;
+                Ok(())
+            }
+            Act::Attribute => self.attribute.push(b),
+            Act::BeginValue => {
+                self.is_read = self.kind().reads(self.attribute.as_slice());
+                self.value.clear();
+                Ok(())
+            }
+            Act::Value => {
+                if self.is_read {
+                    self.value.push(b)?;
+                }
+                Ok(())
+            }
+            _ => unreachable!(),
+        }
+    }
+
+    /// The tokens after a byte at an offset, which is an act to them.
+    pub(crate) fn after(&mut self, act: Act, offset: u32, b: u8) -> Result<(), AllocError>
+        requires { words_in self.old.stack + 1 < 2 ^ 32 }
+        ensures { OnOk result (self.new ≡ after act offset b self.old) }
+    {
+        match act {
+            Act::Pass | Act::Passes | Act::Quotes => Ok(()),
+            Act::Letter => self.letter(offset, b),
+            Act::Less => {
+                self.end_word();
+                self.at = offset;
+                Ok(())
+            }
+            Act::EndValue => self.end_value(),
+            Act::Opens => self.open(),
+            Act::Closes => {
+                self.stack.pop();
+                Ok(())
+            }
+            Act::BeginName
+            | Act::Name
+            | Act::BeginAttribute
+            | Act::Attribute
+            | Act::BeginValue
+            | Act::Value => self.in_tag(act, b),
+        }
     }
 }
