@@ -8,11 +8,11 @@ use Rattle.ground_num.specs.FirstFault.{Begins}
 use Rattle.landxml_read.specs.declared.fault.DocCause.{DocCause}
 use Rattle.landxml_read.specs.declared.fault.DocCause.TheVariants.{Utf8, Doctype, Syntax, Cut, Root, Depth, Tag, Long, Entity, Attr, Unit as BadUnit, SurfType, BrkType, BndType, Number, Big, Count, Range, NoHeight, Id, Face}
 use Rattle.landxml_read.specs.declared.scan.Scan.{Scan}
-use Rattle.landxml_read.specs.Markup.{Document, IsDocument, document_text}
+use Rattle.landxml_read.specs.Markup.{Document, IsDocument, IsDocumentText, document_text}
 use Rattle.landxml_read.specs.Faults.{Fault, fault, tree_faults}
 use Rattle.landxml_read.specs.Answer.{rank, Shows, ShowsOutline, IsOfTree, IsBefore, IsFaultOf, IsOutlineFault, IsTreeOf}
 use Rattle.landxml_read.specs.Events.{Event, event_faults, document_events}
-use Rattle.landxml_read.specs.Scan.{next, is_final}
+use Rattle.landxml_read.specs.Scan.{next}
 use Rattle.landxml_read.specs.Tokens.{Reading, act, shown, on, led, reads, pushed, at_start}
 use Rattle.std.specs.Option.{option_map}
 use Rattle.landxml_read.proofs.Bytes.{clash}
@@ -20,7 +20,7 @@ use Rattle.landxml_read.specs.declared.scan.Level.TheVariants.{After}
 use Rattle.landxml_read.specs.declared.scan.Part.TheVariants.{Text}
 use Rattle.landxml_read.proofs.Running.{reading, reads_more, run_of}
 use Rattle.landxml_read.proofs.Accepted.{document_read}
-use Rattle.landxml_read.proofs.Scanning.{begun, whole}
+use Rattle.landxml_read.proofs.Scanning.{begun}
 use Rattle.landxml_read.proofs.Outlines.{shown_later}
 use Rattle.landxml_read.proofs.Totals.{total, totals, total_flat}
 use Rattle.landxml_read.proofs.Shown.{shown_total}
@@ -254,9 +254,8 @@ quiet_on r b s quiet none =
     omega (arith, a, c, d, quiet)
 
 -- the tree of bytes that were read quietly to their end
-pub whole_tree : (seen : List ℕ) (r : Reading) → reads (Some at_start) seen ≡ Some r → IsQuiet r → IsUtf8 seen → is_final r.scan ≡ true → (d : Document) × IsTreeOf seen d
-whole_tree seen r e quiet utf8 final =
-    let d = whole seen r.scan (run_of at_start seen ∙ ap (option_map (λ u. u.scan)) e) final in
+pub whole_tree : (seen : List ℕ) (r : Reading) → reads (Some at_start) seen ≡ Some r → IsQuiet r → IsUtf8 seen → IsDocumentText seen → (d : Document) × IsTreeOf seen d
+whole_tree seen r e quiet utf8 d =
     let t = told_all (λ f. true) d.0 d.1 seen [] r e (append-nil seen ∙ d.2) in
     let same : r ≡ t.0 = some t.1 in
     let told = ap (told_total (λ f. true)) same in

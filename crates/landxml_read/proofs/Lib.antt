@@ -21,5 +21,7 @@ pub mod Encoded
 pub mod Depths
 pub mod Outlines
 pub mod Faulted
+pub mod FirstShown
+pub mod Readers
 pub mod Decodings
 pub mod Decimals

@@ -74,19 +74,24 @@ abbrev pub causes : ℕ → ℕ → List (Bool × DocCause) → List Fault
 causes shown at [] = []
 causes shown at (row ∷ rows) = when row.0 (fault shown row.1 at) ++ causes shown at rows
 
+-- the causes of the values of a read attribute
+abbrev pub value_rows : Kind → Values → List (Bool × DocCause)
+value_rows kind v =
+    (v.is_unlisted, cause.Entity)
+    ∷ ((must_have kind && not v.is_there) || v.is_twice, cause.Attr)
+    ∷ (is_bad_unit kind v.first, cause.Unit)
+    ∷ (is_bad_surface kind v.is_there v.first, cause.SurfType)
+    ∷ (is_bad_break kind v.is_there v.first, cause.BrkType)
+    ∷ (is_bad_boundary kind v.first, cause.BndType)
+    ∷ []
+
 -- the causes of a tag
 abbrev pub opening_rows : Opening → List (Bool × DocCause)
 opening_rows o =
     (o.depth == 1 && not (bytes_eq o.name (codes "LandXML")), cause.Root)
     ∷ (nat_lt 64 o.depth, cause.Depth)
     ∷ (nat_lt 255 (length o.name) || o.values.is_long, cause.Long)
-    ∷ (o.values.is_unlisted, cause.Entity)
-    ∷ ((must_have o.kind && not o.values.is_there) || o.values.is_twice, cause.Attr)
-    ∷ (is_bad_unit o.kind o.values.first, cause.Unit)
-    ∷ (is_bad_surface o.kind o.values.is_there o.values.first, cause.SurfType)
-    ∷ (is_bad_break o.kind o.values.is_there o.values.first, cause.BrkType)
-    ∷ (is_bad_boundary o.kind o.values.first, cause.BndType)
-    ∷ []
+    ∷ value_rows o.kind o.values
 
 -- the causes of an end
 abbrev pub closing_rows : Closing → List (Bool × DocCause)

@@ -12,3 +12,5 @@ pub mod Outline
 pub mod Events
 pub mod Tokens
 pub mod Decoding
+pub mod Verdict
+pub mod Reader

@@ -59,7 +59,8 @@ impl Stack {
 
     /// How many elements are open.
     pub(crate) fn len(&self) -> usize
-        ensures { result ≡ length self.now }
+        ensures count { result ≡ length self.now }
+        ensures small { result < 2 ^ 63 }
     {
         self.items.len()
     }
@@ -96,15 +97,14 @@ impl Stack {
 
     /// One more word of the innermost is complete.
     pub(crate) fn count_word(&mut self)
-        requires { words_in self.old + 1 < 2 ^ 32 }
-        ensures { self.new ≡ counted 1 self.old }
+        ensures { words_in self.old + 1 < 2 ^ 32 → self.new ≡ counted 1 self.old }
     {
         if let Some(element) = self.items.pop() {
             let Element { kind, name, words } = element;
             self.items.push_reserved(Element {
                 kind,
                 name,
-                words: words + 1,
+                words: words.saturating_add(1),
             });
         }
     }

@@ -14,6 +14,7 @@ mod markup;
 mod number;
 mod outline;
 mod raw;
+mod reader;
 mod reference;
 mod scan;
 mod skipped;
@@ -24,11 +25,13 @@ mod tests;
 mod tokens;
 mod utf8;
 mod values;
+mod verdict;
 
-pub use fault::{DocCause, DocFault};
+pub use fault::{DocCause, DocFault, ReadFault};
 pub use list::RawList;
 pub use markup::Outline;
 pub use raw::{
     Pair2, Pairs, RawDoc, RawFace, RawFaces, RawId, RawIds, RawKind, RawLine, RawLines, RawSurface,
     RawSurfaces, RawVertex, RawVertices, Triple, Triples,
 };
+pub use reader::Reader;

@@ -61,8 +61,7 @@ impl Tokens {
 
     // The open word is complete, where one is open.
     fn end_word(&mut self)
-        requires { words_in self.old.stack + 1 < 2 ^ 32 }
-        ensures { self.new ≡ with_word self.old no_word (finished (word_of self.old)) }
+        ensures { words_in self.old.stack + 1 < 2 ^ 32 → self.new ≡ with_word self.old no_word (finished (word_of self.old)) }
     {
         if !self.word.is_empty() {
             self.stack.count_word();
@@ -84,8 +83,7 @@ impl Tokens {
 
     // A byte of the text of an element.
     fn letter(&mut self, offset: u32, b: u8) -> Result<(), AllocError>
-        requires { words_in self.old.stack + 1 < 2 ^ 32 }
-        ensures { OnOk result (self.new ≡ after Letter offset b self.old) }
+        ensures { words_in self.old.stack + 1 < 2 ^ 32 → OnOk result (self.new ≡ after Letter offset b self.old) }
     {
         if self.stack.kind().has_text() {
             if is_white_byte(b) {
@@ -162,8 +160,7 @@ impl Tokens {
 
     /// The tokens after a byte at an offset, which is an act to them.
     pub(crate) fn after(&mut self, act: Act, offset: u32, b: u8) -> Result<(), AllocError>
-        requires { words_in self.old.stack + 1 < 2 ^ 32 }
-        ensures { OnOk result (self.new ≡ after act offset b self.old) }
+        ensures { words_in self.old.stack + 1 < 2 ^ 32 → OnOk result (self.new ≡ after act offset b self.old) }
     {
         match act {
             Act::Pass | Act::Passes | Act::Quotes => Ok(()),
