@@ -3,8 +3,8 @@ use Rattle.std.proofs.Common.{◌≡◌, ℕ, ◌+◌, ◌-◌, Bool, true, fals
 use Rattle.std.specs.Option.{option_map}
 use Rattle.landxml_read.specs.Markup.{is_white, is_free, start_text, empty_text, end_text, Content, Nothing, Byte, Comment as CommentOf, Instruction as InstructionOf, CData as CDataOf, Empty, Element as ElementOf, is_content, is_outside, content_text, Document, document_text, IsDocument}
 use Rattle.landxml_read.specs.declared.kind.Kind.TheVariants.{Outside}
-use Rattle.landxml_read.specs.declared.scan.Level.{Level}
-use Rattle.landxml_read.specs.declared.scan.Level.TheVariants.{Before, Inside, After}
+use Rattle.landxml_read.specs.declared.level.Level.{Level}
+use Rattle.landxml_read.specs.declared.level.Level.TheVariants.{Before, Inside, After}
 use Rattle.landxml_read.specs.declared.scan.Part.TheVariants.{Text, Open}
 use Rattle.landxml_read.specs.declared.tokens.Tokens.{Tokens}
 use Rattle.landxml_read.specs.declared.element.Element.{Element}

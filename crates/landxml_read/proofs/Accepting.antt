@@ -2,8 +2,8 @@
 use Rattle.std.proofs.Common.{◌≡◌, ℕ, Bool, true, false, ◌==◌, ◌&&◌, ◌||◌, cond, List, [], ◌∷◌, ◌++◌, codes, Option, None, Some, refl, sym, ◌∙◌, ap, subst, eqb-true}
 use Rattle.landxml_read.specs.Markup.{is_white, is_free, begins_name, is_in_name, is_in_value, Nothing, IsDocumentText}
 use Rattle.landxml_read.specs.declared.scan.Scan.{Scan}
-use Rattle.landxml_read.specs.declared.scan.Level.{Level}
-use Rattle.landxml_read.specs.declared.scan.Level.TheVariants.{Before, Inside, After}
+use Rattle.landxml_read.specs.declared.level.Level.{Level}
+use Rattle.landxml_read.specs.declared.level.Level.TheVariants.{Before, Inside, After}
 use Rattle.landxml_read.specs.declared.scan.Part.{Part}
 use Rattle.landxml_read.specs.declared.scan.Part.TheVariants.{Start, MarkFirst, MarkSecond, Text, Open, Bang, BangDash, Bracket, BracketC, BracketCd, BracketCda, BracketCdat, BracketCdata, In, Tag, EndOpen, EndName, EndWhite}
 use Rattle.landxml_read.specs.declared.skipped.Skipped.{Skipped}
@@ -137,33 +137,33 @@ close_back R x b ys e r =
 by_skip : (L : Level) (part : Skipped) (b : ℕ) (ys : List ℕ) (G : Type 0) → (is_free b ≡ true → AcceptsSkipped part L ys → G) → Continues (skipping L part b) ys → G
 by_skip L part b ys G on c = by_test (is_free b) (at L (In part)) None ys G on (λ e n. absurd n) c
 
+-- after no such byte, after one, and after two or more
+first_back : (R : List ℕ → Type 0) (x b : ℕ) (L : Level) (none one : Skipped) (ys : List ℕ) → (AcceptsSkipped one L ys → Until R (twice x) (x ∷ ys)) → (AcceptsSkipped none L ys → Until R (twice x) ys)
+    → Continues (cond (b == x) (at L (In one)) (skipping L none b)) ys → Until R (twice x) (b ∷ ys)
+first_back R x b L none one ys on off c =
+    let P : ℕ → Type 0 = λ y. Until R (twice x) (y ∷ ys) in
+    by_test (b == x) (at L (In one)) _ ys (P b) (λ e a. subst P (sym (eqb-true b x e)) (on a)) (λ e d. by_skip L none b ys (P b) (λ f a. none_back R x b ys f e (off a)) d) c
+
+second_back : (R : List ℕ → Type 0) (x b : ℕ) (L : Level) (none two : Skipped) (ys : List ℕ) → is_free x ≡ true → (AcceptsSkipped two L ys → Until R (twice x) (x ∷ x ∷ ys)) → (AcceptsSkipped none L ys → Until R (twice x) ys)
+    → Continues (cond (b == x) (at L (In two)) (skipping L none b)) ys → Until R (twice x) (x ∷ b ∷ ys)
+second_back R x b L none two ys free on off c =
+    let P : ℕ → Type 0 = λ y. Until R (twice x) (x ∷ y ∷ ys) in
+    by_test (b == x) (at L (In two)) _ ys (P b) (λ e a. subst P (sym (eqb-true b x e)) (on a)) (λ e d. by_skip L none b ys (P b) (λ f a. one_back R x b ys free f e (off a)) d) c
+
+third_back : (x b : ℕ) (L : Level) (none two : Skipped) (ys : List ℕ) → is_free x ≡ true → (AcceptsSkipped two L ys → Until (Rest L) (twice x) (x ∷ x ∷ ys)) → (AcceptsSkipped none L ys → Until (Rest L) (twice x) ys)
+    → Continues (cond (b == 62) (at L Text) (cond (b == x) (at L (In two)) (skipping L none b))) ys → Until (Rest L) (twice x) (x ∷ x ∷ b ∷ ys)
+third_back x b L none two ys free on off c =
+    let G : Type 0 = Until (Rest L) (twice x) (x ∷ x ∷ b ∷ ys) in
+    by_test (b == 62) (at L Text) _ ys G (λ e a. close_back (Rest L) x b ys e a)
+    (λ f d. by_test (b == x) (at L (In two)) _ ys G (λ e a. more_back (Rest L) x b ys free e f (on a)) (λ e d. by_skip L none b ys G (λ g a. two_back (Rest L) x b ys free g e f (off a)) d) d) c
+
 skipped_back : (L : Level) (part : Skipped) (b : ℕ) (ys : List ℕ) → Continues (skipped_next L part b) ys → AcceptsSkipped part L (b ∷ ys)
-skipped_back L Comment b ys c =
-    let P : ℕ → Type 0 = λ x. Until (Rest L) (codes "-->") (x ∷ ys) in
-    by_test (b == 45) (at L (In CommentDash)) _ ys (P b) (λ e a. subst P (sym (eqb-true b 45 e)) a)
-    (λ e d. by_skip L Comment b ys (P b) (λ f a. none_back (Rest L) 45 b ys f e a) d) c
-skipped_back L CommentDash b ys c =
-    let P : ℕ → Type 0 = λ x. Until (Rest L) (codes "-->") (45 ∷ x ∷ ys) in
-    by_test (b == 45) (at L (In CommentDashes)) _ ys (P b) (λ e a. subst P (sym (eqb-true b 45 e)) a)
-    (λ e d. by_skip L Comment b ys (P b) (λ f a. one_back (Rest L) 45 b ys refl f e a) d) c
-skipped_back L CommentDashes b ys c =
-    let G : Type 0 = Until (Rest L) (codes "-->") (45 ∷ 45 ∷ b ∷ ys) in
-    by_test (b == 62) (at L Text) _ ys G (λ e a. close_back (Rest L) 45 b ys e a)
-    (λ f d. by_test (b == 45) (at L (In CommentDashes)) _ ys G (λ e a. more_back (Rest L) 45 b ys refl e f a)
-    (λ e d. by_skip L Comment b ys G (λ g a. two_back (Rest L) 45 b ys refl g e f a) d) d) c
-skipped_back L CData b ys c =
-    let P : ℕ → Type 0 = λ x. Until (Rest L) (codes "]]>") (x ∷ ys) in
-    by_test (b == 93) (at L (In CDataBracket)) _ ys (P b) (λ e a. subst P (sym (eqb-true b 93 e)) a)
-    (λ e d. by_skip L CData b ys (P b) (λ f a. none_back (Rest L) 93 b ys f e a) d) c
-skipped_back L CDataBracket b ys c =
-    let P : ℕ → Type 0 = λ x. Until (Rest L) (codes "]]>") (93 ∷ x ∷ ys) in
-    by_test (b == 93) (at L (In CDataBrackets)) _ ys (P b) (λ e a. subst P (sym (eqb-true b 93 e)) a)
-    (λ e d. by_skip L CData b ys (P b) (λ f a. one_back (Rest L) 93 b ys refl f e a) d) c
-skipped_back L CDataBrackets b ys c =
-    let G : Type 0 = Until (Rest L) (codes "]]>") (93 ∷ 93 ∷ b ∷ ys) in
-    by_test (b == 62) (at L Text) _ ys G (λ e a. close_back (Rest L) 93 b ys e a)
-    (λ f d. by_test (b == 93) (at L (In CDataBrackets)) _ ys G (λ e a. more_back (Rest L) 93 b ys refl e f a)
-    (λ e d. by_skip L CData b ys G (λ g a. two_back (Rest L) 93 b ys refl g e f a) d) d) c
+skipped_back L Comment b ys c = first_back (Rest L) 45 b L Comment CommentDash ys (λ a. a) (λ a. a) c
+skipped_back L CommentDash b ys c = second_back (Rest L) 45 b L Comment CommentDashes ys refl (λ a. a) (λ a. a) c
+skipped_back L CommentDashes b ys c = third_back 45 b L Comment CommentDashes ys refl (λ a. a) (λ a. a) c
+skipped_back L CData b ys c = first_back (Rest L) 93 b L CData CDataBracket ys (λ a. a) (λ a. a) c
+skipped_back L CDataBracket b ys c = second_back (Rest L) 93 b L CData CDataBrackets ys refl (λ a. a) (λ a. a) c
+skipped_back L CDataBrackets b ys c = third_back 93 b L CData CDataBrackets ys refl (λ a. a) (λ a. a) c
 skipped_back L Instruction b ys c =
     let P : ℕ → Type 0 = λ x. Until (Rest L) (codes "?>") (x ∷ ys) in
     by_test (b == 63) (at L (In InstructionMark)) _ ys (P b) (λ e a. subst P (sym (eqb-true b 63 e)) a)

@@ -1,8 +1,8 @@
 -- A reading of what stands in an element, up to the < of its end tag.
 use Rattle.std.proofs.Common.{◌≡◌, ℕ, suc, ◌+◌, ◌-◌, Bool, true, false, ◌==◌, ◌&&◌, ◌||◌, not, List, [], ◌∷◌, ◌++◌, length, codes, bytes_eq, Some, refl, sym, ◌∙◌, ap, arith, append_assoc, length-append}
 use Rattle.landxml_read.specs.Markup.{is_white, is_free, start_text, empty_text, end_text, Content, Nothing, Byte, Comment as CommentOf, Instruction as InstructionOf, CData as CDataOf, Empty, Element as ElementOf, is_content, content_text}
-use Rattle.landxml_read.specs.declared.scan.Level.{Level}
-use Rattle.landxml_read.specs.declared.scan.Level.TheVariants.{Inside}
+use Rattle.landxml_read.specs.declared.level.Level.{Level}
+use Rattle.landxml_read.specs.declared.level.Level.TheVariants.{Inside}
 use Rattle.landxml_read.specs.declared.scan.Part.TheVariants.{Text, Open, In}
 use Rattle.landxml_read.specs.declared.skipped.Skipped.TheVariants.{CData}
 use Rattle.landxml_read.specs.declared.tokens.Tokens.{Tokens}

@@ -16,12 +16,12 @@ use Rattle.landxml_read.specs.Scan.{next}
 use Rattle.landxml_read.specs.Tokens.{Reading, act, shown, on, led, reads, pushed, at_start}
 use Rattle.std.specs.Option.{option_map}
 use Rattle.landxml_read.proofs.Bytes.{clash}
-use Rattle.landxml_read.specs.declared.scan.Level.TheVariants.{After}
+use Rattle.landxml_read.specs.declared.level.Level.TheVariants.{After}
 use Rattle.landxml_read.specs.declared.scan.Part.TheVariants.{Text}
 use Rattle.landxml_read.proofs.Running.{reading, reads_more, run_of}
 use Rattle.landxml_read.proofs.Accepted.{document_read}
 use Rattle.landxml_read.proofs.Scanning.{begun}
-use Rattle.landxml_read.proofs.Outlines.{shown_later}
+use Rattle.landxml_read.proofs.Outlines.{shown_later, outline_cases}
 use Rattle.landxml_read.proofs.Totals.{total, totals, total_flat}
 use Rattle.landxml_read.proofs.Shown.{shown_total}
 use Rattle.landxml_read.proofs.FaultTests.{is_fault, fault_is, is_itself, counted, contained, none_passes, all_none, IsRanked, first_ranked}
@@ -131,30 +131,8 @@ kinds_of bytes g h = by g.cause h
     by Face h = inr (h, omega arith)
 
 of_outline : (bytes : List ℕ) (f : Fault) → ShowsOutline bytes f → Shows bytes f × (rank f.cause ≤ 3)
-of_outline bytes f h = by f.cause h
-  where
-    by : (c : DocCause) → ShowsOutline bytes (record f { cause = c }) → Shows bytes (record f { cause = c }) × (rank c ≤ 3)
-    by Utf8 h = (h, omega arith)
-    by Doctype h = (h, omega arith)
-    by Syntax h = (h, omega arith)
-    by Cut h = (h, omega arith)
-    by Root h = absurd h
-    by Depth h = absurd h
-    by Tag h = absurd h
-    by Long h = absurd h
-    by Entity h = absurd h
-    by Attr h = absurd h
-    by BadUnit h = absurd h
-    by SurfType h = absurd h
-    by BrkType h = absurd h
-    by BndType h = absurd h
-    by Number h = absurd h
-    by Big h = absurd h
-    by Count h = absurd h
-    by Range h = absurd h
-    by NoHeight h = absurd h
-    by Id h = absurd h
-    by Face h = absurd h
+of_outline bytes f h =
+    outline_cases bytes f (λ c. Shows bytes (record f { cause = c }) × (rank c ≤ 3)) h (λ k. (k, omega arith)) (λ k. (k, omega arith)) (λ k. (k, omega arith)) (λ k. (k, omega arith))
 
 of_tree : (bytes : List ℕ) (f : Fault) → IsOfTree bytes f → 4 ≤ rank f.cause → Shows bytes f
 of_tree bytes f h le = by f.cause h le

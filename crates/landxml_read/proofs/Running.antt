@@ -4,7 +4,7 @@ use Rattle.std.proofs.lemmas.List.{append-nil}
 use Rattle.std.specs.Option.{option_map}
 use Rattle.std.specs.List.{list_all}
 use Rattle.landxml_read.specs.declared.scan.Scan.{Scan}
-use Rattle.landxml_read.specs.declared.scan.Level.{Level}
+use Rattle.landxml_read.specs.declared.level.Level.{Level}
 use Rattle.landxml_read.specs.declared.scan.Part.{Part}
 use Rattle.landxml_read.specs.declared.tokens.Tokens.{Tokens}
 use Rattle.landxml_read.specs.Events.{Event}

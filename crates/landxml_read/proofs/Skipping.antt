@@ -1,7 +1,7 @@
 -- A reading passes comments, processing instructions and CDATA.
 use Rattle.std.proofs.Common.{◌≡◌, ℕ, ◌+◌, Bool, true, false, ◌==◌, ◌&&◌, cond, List, [], ◌∷◌, ◌++◌, length, codes, bytes_eq, take, Option, Some, refl, sym, ◌∙◌, ap, arith, eqb-true}
 use Rattle.landxml_read.specs.Markup.{is_free, is_up_to}
-use Rattle.landxml_read.specs.declared.scan.Level.{Level}
+use Rattle.landxml_read.specs.declared.level.Level.{Level}
 use Rattle.landxml_read.specs.declared.scan.Part.TheVariants.{Text, In}
 use Rattle.landxml_read.specs.declared.skipped.Skipped.{Skipped}
 use Rattle.landxml_read.specs.declared.skipped.Skipped.TheVariants.{Comment, CommentDash, CommentDashes, Instruction, InstructionMark, CData, CDataBracket, CDataBrackets}

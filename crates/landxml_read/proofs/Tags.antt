@@ -2,8 +2,8 @@
 use Rattle.std.proofs.Common.{◌≡◌, ℕ, ◌+◌, Bool, true, false, ◌==◌, ◌&&◌, cond, List, [], ◌∷◌, ◌++◌, length, flat_map, Option, Some, refl, sym, ◌∙◌, ap, subst, arith, append_assoc, length-append, inl, inr}
 use Rattle.std.specs.List.{list_all}
 use Rattle.landxml_read.specs.Markup.{is_white, begins_name, is_in_name, is_in_value, is_name, is_gap, is_quote, Attribute as Attr, StartTag, EndTag, is_attribute, is_start, is_end, attribute_text}
-use Rattle.landxml_read.specs.declared.scan.Level.{Level}
-use Rattle.landxml_read.specs.declared.scan.Level.TheVariants.{Inside}
+use Rattle.landxml_read.specs.declared.level.Level.{Level}
+use Rattle.landxml_read.specs.declared.level.Level.TheVariants.{Inside}
 use Rattle.landxml_read.specs.declared.scan.Part.TheVariants.{Text, Open, Tag, EndOpen, EndName, EndWhite}
 use Rattle.landxml_read.specs.declared.tag.TagPart.{TagPart}
 use Rattle.landxml_read.specs.declared.tag.TagPart.TheVariants.{Name, White, Attribute, BeforeEquals, AfterEquals, DoubleQuoted, SingleQuoted, AfterValue}

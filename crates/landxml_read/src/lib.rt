@@ -9,6 +9,7 @@ mod decode;
 mod element;
 mod fault;
 mod kind;
+mod level;
 mod list;
 mod markup;
 mod number;
