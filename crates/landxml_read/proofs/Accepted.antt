@@ -1,24 +1,22 @@
 -- A reading of each document: the scan takes it, and it shows the document's events.
-use Rattle.std.proofs.Common.{◌≡◌, ℕ, ◌+◌, ◌-◌, Bool, true, false, ◌==◌, ◌&&◌, ◌||◌, not, List, [], ◌∷◌, ◌++◌, length, codes, bytes_eq, Option, Some, refl, sym, ◌∙◌, ap, subst, arith, append_assoc, length-append}
+use Rattle.std.proofs.Common.{◌≡◌, ℕ, ◌+◌, ◌-◌, Bool, true, false, ◌==◌, ◌&&◌, ◌||◌, List, [], ◌∷◌, ◌++◌, length, codes, Option, Some, refl, sym, ◌∙◌, ap, subst, arith, append_assoc, length-append}
 use Rattle.std.specs.Option.{option_map}
 use Rattle.landxml_read.specs.Markup.{is_white, is_free, start_text, empty_text, end_text, Content, Nothing, Byte, Comment as CommentOf, Instruction as InstructionOf, CData as CDataOf, Empty, Element as ElementOf, is_content, is_outside, content_text, Document, document_text, IsDocument}
 use Rattle.landxml_read.specs.declared.kind.Kind.TheVariants.{Outside}
 use Rattle.landxml_read.specs.declared.level.Level.{Level}
-use Rattle.landxml_read.specs.declared.level.Level.TheVariants.{Before, Inside, After}
+use Rattle.landxml_read.specs.declared.level.Level.TheVariants.{Before, After}
 use Rattle.landxml_read.specs.declared.scan.Part.TheVariants.{Text, Open}
 use Rattle.landxml_read.specs.declared.tokens.Tokens.{Tokens}
-use Rattle.landxml_read.specs.declared.element.Element.{Element}
 use Rattle.landxml_read.specs.Elements.{below}
-use Rattle.landxml_read.specs.Faults.{has_text}
-use Rattle.landxml_read.specs.Events.{Event, Opened, Closed, opening, closing, empty_events, no_values, no_word, words_read, events, document_events}
+use Rattle.landxml_read.specs.Events.{Event, Opened, Closed, opening, closing, empty_events, no_word, events, document_events}
 use Rattle.landxml_read.specs.Scan.{is_inside, start, run}
 use Rattle.landxml_read.specs.Tokens.{Reading, reads, pushed, no_tokens, at_start}
 use Rattle.landxml_read.proofs.Bytes.{both, differs}
 use Rattle.landxml_read.proofs.Accepting.{Ends}
 use Rattle.landxml_read.proofs.Running.{scan, reading, if_true, if_false, goes, then_reads, pushed_more, run_of}
 use Rattle.landxml_read.proofs.Skipping.{comment_read, instruction_read}
-use Rattle.landxml_read.proofs.Tags.{tail_text, end_tail, start_read, empty_read, end_read}
-use Rattle.landxml_read.proofs.Contents.{content_read, text_at, less_at, skipped_length}
+use Rattle.landxml_read.proofs.Tags.{tail_text, end_tail, empty_read}
+use Rattle.landxml_read.proofs.Contents.{content_read, element_run, element_parts, own_of, skipped_length}
 
 -- outside the root
 abbrev outside_at : Level → Tokens → ℕ → List Event → Reading
@@ -107,49 +105,23 @@ before_read t n told (ElementOf tag inside end after) is out =
     let h = both _ _ is in
     let g = both _ _ h.0 in
     let l = both _ _ g.0 in
-    let own : Element = record { kind = below Outside tag.name; name = tag.name; words = 0 } in
-    let u : Tokens = record t { at = n; stack = []; word_at = 0; word = [] } in
     let inside_at = n + length (start_text tag) in
-    let end_at = inside_at + length (content_text inside) in
     let there = inside_at + length (content_text inside) + length (end_text end) in
-    let tag_length = length-append (tail_text tag) (62 ∷ []) in
-    let end_length : length (end_text end) ≡ length end.name + length end.white + 3 =
-    (let a = length-append end.name (end.white ++ 62 ∷ []) in let b = length-append end.white (62 ∷ []) in omega (arith, a, b)) in
-    let m = n + 1 + length (tail_text tag) in
-    let x = start_read Before (n + 1) m u told tag refl refl l.0 in
+    let z = element_run Before 0 [] n t told tag inside end refl refl l.0 g.1 (λ u now. content_read 0 u (own_of [] tag) [] no_word inside_at now inside l.1) in
+    let own_events = events (below Outside tag.name) 1 inside_at no_word inside in
     let opens = Opened (opening Outside 0 n tag (inside_at - 1)) ∷ told in
-    let y = content_read 0 x.rest own [] no_word inside_at opens inside l.1 in
-    let own_events = events own.kind 1 inside_at no_word inside in
-    let own_words = words_read (has_text own.kind) inside_at no_word inside in
-    let j = end_at + 1 + length end.name + length end.white in
-    let ended = end_read 0 (end_at + 1) j (record y.rest { at = end_at; stack = record own { words = 0 + length own_words } ∷ []; word_at = 0; word = [] }) (pushed own_events opens) end refl g.1 in
-    let last : Tokens = record y.rest { at = end_at; name = end.name; values = no_values } in
     let now = Closed (closing Outside n tag inside end) ∷ pushed own_events opens in
-    let c = after_read last there now after h.1 out in
-    let a : m + 1 ≡ inside_at = omega (arith, tag_length) in
-    let b : m ≡ inside_at - 1 = omega (arith, tag_length) in
-    let s : j + 1 + 1 ≡ there = omega (arith, end_length) in
-    let v : j + 1 ≡ end_at + length (end_text end) - 1 = omega (arith, end_length) in
-    let z : 0 + length own_words ≡ length own_words = omega arith in
+    let c = after_read z.rest there now after h.1 out in
     let p : there + length (content_text after) ≡ n + length (content_text (ElementOf tag inside end after)) =
     omega (arith, length-append (start_text tag) (content_text inside ++ (end_text end ++ content_text after)), length-append (content_text inside) (end_text end ++ content_text after), length-append (end_text end) (content_text after)) in
-    let later = events Outside 0 there no_word after in
-    let r = sym (pushed_more own_events (Closed (closing Outside n tag inside end) ∷ later) opens) in
+    let r = sym (pushed_more own_events (Closed (closing Outside n tag inside end) ∷ events Outside 0 there no_word after) opens) in
+    let bytes = (tail_text tag ++ 62 ∷ []) ++ ((content_text inside ++ 60 ∷ []) ++ end_tail end) in
     record {
       rest = c.rest;
-      runs = ap (reads (Some (outside_at Before t n told))) (regroup (tail_text tag) (content_text inside) (end.name ++ (end.white ++ 62 ∷ [])) (content_text after))
-          ∙ then_reads (reading Open Before (n + 1) u told) (text_at (Inside 0) x.rest own [] no_word inside_at opens) (tail_text tag ++ 62 ∷ []) _ _
-          (x.runs ∙ (λ i. Some (reading Text (Inside 0) (a i) (record x.rest { stack = own ∷ []; word_at = 0; word = [] }) (Opened (opening Outside 0 n tag (b i)) ∷ told))))
-          (then_reads (text_at (Inside 0) x.rest own [] no_word inside_at opens) (less_at (Inside 0) y.rest own [] end_at (0 + length own_words) (pushed own_events opens)) (content_text inside ++ 60 ∷ []) _ _
-          y.runs
-          (then_reads (less_at (Inside 0) y.rest own [] end_at (0 + length own_words) (pushed own_events opens)) (outside_at After last there now) (end_tail end) (content_text after) _
-          (ended ∙ (λ i. Some (reading Text After (s i) (record last { stack = []; word_at = 0; word = [] })
-          (Closed (record { kind = own.kind; words = z i; is_misnamed = not (bytes_eq end.name tag.name); at = end_at; shown = v i }) ∷ pushed own_events opens))))
-          (c.runs ∙ (λ i. Some (outside_at After c.rest (p i) (r i))))));
+      runs = ap (reads (Some (outside_at Before t n told))) (element_parts (tail_text tag) (content_text inside) (end.name ++ (end.white ++ 62 ∷ [])) (content_text after))
+          ∙ then_reads (reading Open Before (n + 1) (record t { at = n; stack = []; word_at = 0; word = [] }) told) (outside_at After z.rest there now) bytes (content_text after) _ z.runs
+          (c.runs ∙ (λ i. Some (outside_at After c.rest (p i) (r i))));
     }
-  where
-    regroup : (a b d c : List ℕ) → (60 ∷ a ++ 62 ∷ []) ++ (b ++ ((60 ∷ 47 ∷ d) ++ c)) ≡ 60 ∷ ((a ++ 62 ∷ []) ++ ((b ++ 60 ∷ []) ++ ((47 ∷ d) ++ c)))
-    regroup a b d c = ap (λ w. 60 ∷ ((a ++ 62 ∷ []) ++ w)) (sym (append_assoc b (60 ∷ []) (47 ∷ (d ++ c))))
 
 -- without a byte order mark
 unmarked_read : (c : Content) → is_outside 1 c ≡ true → reads (Some at_start) (content_text c) ≡ reads (Some (outside_at Before no_tokens 0 [])) (content_text c)

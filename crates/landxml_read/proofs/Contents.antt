@@ -1,6 +1,6 @@
 -- A reading of what stands in an element, up to the < of its end tag.
 use Rattle.std.proofs.Common.{◌≡◌, ℕ, suc, ◌+◌, ◌-◌, Bool, true, false, ◌==◌, ◌&&◌, ◌||◌, not, List, [], ◌∷◌, ◌++◌, length, codes, bytes_eq, Some, refl, sym, ◌∙◌, ap, arith, append_assoc, length-append}
-use Rattle.landxml_read.specs.Markup.{is_white, is_free, start_text, empty_text, end_text, Content, Nothing, Byte, Comment as CommentOf, Instruction as InstructionOf, CData as CDataOf, Empty, Element as ElementOf, is_content, content_text}
+use Rattle.landxml_read.specs.Markup.{StartTag, EndTag, is_start, is_end, is_white, is_free, start_text, empty_text, end_text, Content, Nothing, Byte, Comment as CommentOf, Instruction as InstructionOf, CData as CDataOf, Empty, Element as ElementOf, is_content, content_text}
 use Rattle.landxml_read.specs.declared.level.Level.{Level}
 use Rattle.landxml_read.specs.declared.level.Level.TheVariants.{Inside}
 use Rattle.landxml_read.specs.declared.scan.Part.TheVariants.{Text, Open, In}
@@ -11,8 +11,8 @@ use Rattle.landxml_read.specs.Elements.{below}
 use Rattle.landxml_read.specs.Words.{Word}
 use Rattle.landxml_read.specs.Faults.{has_text}
 use Rattle.landxml_read.specs.Events.{Event, Opened, Closed, opening, closing, empty_events, no_values, no_word, finished, word_after, ended_by, ampersands, quotes, read, words_read, events}
-use Rattle.landxml_read.specs.Scan.{is_inside}
-use Rattle.landxml_read.specs.Tokens.{Reading, reads, pushed}
+use Rattle.landxml_read.specs.Scan.{is_inside, is_unclosed, opened, closed}
+use Rattle.landxml_read.specs.Tokens.{Reading, reads, pushed, kind_in}
 use Rattle.landxml_read.proofs.Bytes.{both, flip_true}
 use Rattle.landxml_read.proofs.Running.{scan, reading, if_true, if_false, goes, then_reads, pushed_more}
 use Rattle.landxml_read.proofs.Skipping.{comment_read, cdata_read, instruction_read}
@@ -45,6 +45,62 @@ skipped_length bytes end c = let e = length-append bytes (end ++ c) in let f = l
 
 counted_more : {A : Type 0} (n : ℕ) (xs ys : List A) → n + length xs + length ys ≡ n + length (xs ++ ys)
 counted_more n xs ys = omega (arith, length-append xs ys)
+
+-- an element, from after its < to its end
+pub record ElementRead (L : Level) (k : ℕ) (stack : List Element) (n : ℕ) (t : Tokens) (told : List Event) (tag : StartTag) (inside : Content) (end : EndTag) : Type 0 where
+  pub rest : Tokens
+  pub runs : reads (Some (reading Open L (n + 1) (record t { at = n; stack = stack; word_at = 0; word = [] }) told)) ((tail_text tag ++ 62 ∷ []) ++ ((content_text inside ++ 60 ∷ []) ++ end_tail end))
+      ≡ Some (reading Text (closed (Inside k)) (n + length (start_text tag) + length (content_text inside) + length (end_text end)) (record rest { stack = stack; word_at = 0; word = [] })
+      (Closed (closing (kind_in stack) n tag inside end)
+      ∷ pushed (events (below (kind_in stack) tag.name) (length stack + 1) (n + length (start_text tag)) no_word inside) (Opened (opening (kind_in stack) (length stack) n tag (n + length (start_text tag) - 1)) ∷ told)))
+
+-- the element that a tag opens
+abbrev pub own_of : List Element → StartTag → Element
+own_of stack tag = record { kind = below (kind_in stack) tag.name; name = tag.name; words = 0 }
+
+pub element_run : (L : Level) (k : ℕ) (stack : List Element) (n : ℕ) (t : Tokens) (told : List Event) (tag : StartTag) (inside : Content) (end : EndTag) → is_unclosed L ≡ true → opened L ≡ Inside k → is_start tag ≡ true → is_end end ≡ true
+    → ((u : Tokens) (now : List Event) → ContentRead k u (own_of stack tag) stack no_word (n + length (start_text tag)) now inside) → ElementRead L k stack n t told tag inside end
+element_run L k stack n t told tag inside end un deeper is ends inner =
+    let own = own_of stack tag in
+    let kind = kind_in stack in
+    let u : Tokens = record t { at = n; stack = stack; word_at = 0; word = [] } in
+    let inside_at = n + length (start_text tag) in
+    let end_at = inside_at + length (content_text inside) in
+    let there = inside_at + length (content_text inside) + length (end_text end) in
+    let tag_length = length-append (tail_text tag) (62 ∷ []) in
+    let end_length : length (end_text end) ≡ length end.name + length end.white + 3 =
+    (let a = length-append end.name (end.white ++ 62 ∷ []) in let b = length-append end.white (62 ∷ []) in omega (arith, a, b)) in
+    let m = n + 1 + length (tail_text tag) in
+    let x = start_read L (n + 1) m u told tag refl un is in
+    let opens = Opened (opening kind (length stack) n tag (inside_at - 1)) ∷ told in
+    let y = inner x.rest opens in
+    let own_events = events own.kind (suc (length stack)) inside_at no_word inside in
+    let own_words = words_read (has_text own.kind) inside_at no_word inside in
+    let j = end_at + 1 + length end.name + length end.white in
+    let ended = end_read k (end_at + 1) j (record y.rest { at = end_at; stack = record own { words = 0 + length own_words } ∷ stack; word_at = 0; word = [] }) (pushed own_events opens) end refl ends in
+    let last : Tokens = record y.rest { at = end_at; name = end.name; values = no_values } in
+    let a : m + 1 ≡ inside_at = omega (arith, tag_length) in
+    let b : m ≡ inside_at - 1 = omega (arith, tag_length) in
+    let d : suc (length stack) ≡ length stack + 1 = omega arith in
+    let s : j + 1 + 1 ≡ there = omega (arith, end_length) in
+    let v : j + 1 ≡ end_at + length (end_text end) - 1 = omega (arith, end_length) in
+    let z : 0 + length own_words ≡ length own_words = omega arith in
+    let begun = text_at (Inside k) x.rest own stack no_word inside_at opens in
+    let less = less_at (Inside k) y.rest own stack end_at (0 + length own_words) (pushed own_events opens) in
+    record {
+      rest = last;
+      runs = then_reads (reading Open L (n + 1) u told) begun (tail_text tag ++ 62 ∷ []) _ _
+          (x.runs ∙ (λ i. Some (reading Text (deeper i) (a i) (record x.rest { stack = own ∷ stack; word_at = 0; word = [] }) (Opened (opening kind (length stack) n tag (b i)) ∷ told))))
+          (then_reads begun less (content_text inside ++ 60 ∷ []) _ _ y.runs
+          (ended ∙ (λ i. Some (reading Text (closed (Inside k)) (s i) (record last { stack = stack; word_at = 0; word = [] })
+          (Closed (record { kind = own.kind; words = z i; is_misnamed = not (bytes_eq end.name tag.name); at = end_at; shown = v i }) ∷ pushed (events own.kind (d i) inside_at no_word inside) opens)))));
+    }
+
+-- the bytes of an element, and what follows it
+pub element_parts : (a b d c : List ℕ) → (60 ∷ a ++ 62 ∷ []) ++ (b ++ ((60 ∷ 47 ∷ d) ++ c)) ≡ 60 ∷ (((a ++ 62 ∷ []) ++ ((b ++ 60 ∷ []) ++ (47 ∷ d))) ++ c)
+element_parts a b d c =
+    ap (λ w. 60 ∷ ((a ++ 62 ∷ []) ++ w)) (sym (append_assoc b (60 ∷ []) (47 ∷ (d ++ c))) ∙ sym (append_assoc (b ++ 60 ∷ []) (47 ∷ d) c))
+    ∙ ap (λ w. 60 ∷ w) (sym (append_assoc (a ++ 62 ∷ []) ((b ++ 60 ∷ []) ++ (47 ∷ d)) c))
 
 pub content_read : (k : ℕ) (t : Tokens) (e : Element) (es : List Element) (w : Word) (n : ℕ) (told : List Event) (x : Content) → is_content x ≡ true → ContentRead k t e es w n told x
 content_read k t e es w n told Nothing is = record { rest = t; runs = let g : n ≡ n + 0 = omega arith in λ i. Some (less_at (Inside k) t e es (g i) (e.words + length (finished w)) (pushed (read e.kind n (finished w)) told)) }
@@ -149,52 +205,23 @@ content_read k t e es w n told (ElementOf tag inside end after) is =
     let depth = suc (length es) in
     let before = pushed (read e.kind n done) told in
     let f : Element = record e { words = e.words + length done } in
-    let own : Element = record { kind = below e.kind tag.name; name = tag.name; words = 0 } in
-    let u : Tokens = record t { at = n; stack = f ∷ es; word_at = 0; word = [] } in
     let inside_at = n + length (start_text tag) in
-    let end_at = inside_at + length (content_text inside) in
     let there = inside_at + length (content_text inside) + length (end_text end) in
-    let tag_length = length-append (tail_text tag) (62 ∷ []) in
-    let end_length : length (end_text end) ≡ length end.name + length end.white + 3 =
-    (let a = length-append end.name (end.white ++ 62 ∷ []) in let b = length-append end.white (62 ∷ []) in omega (arith, a, b)) in
-    let m = n + 1 + length (tail_text tag) in
-    let x = start_read (Inside k) (n + 1) m u before tag refl refl l.0 in
+    let z = element_run (Inside k) (suc k) (f ∷ es) n t before tag inside end refl refl l.0 g.1 (λ u now. content_read (suc k) u (own_of (f ∷ es) tag) (f ∷ es) no_word inside_at now inside l.1) in
+    let all_events = events (below e.kind tag.name) (depth + 1) inside_at no_word inside in
     let opens = Opened (opening e.kind depth n tag (inside_at - 1)) ∷ before in
-    let y = content_read (suc k) x.rest own (f ∷ es) no_word inside_at opens inside l.1 in
-    let own_events = events own.kind (suc depth) inside_at no_word inside in
-    let own_words = words_read (has_text own.kind) inside_at no_word inside in
-    let j = end_at + 1 + length end.name + length end.white in
-    let ended = end_read (suc k) (end_at + 1) j (record y.rest { at = end_at; stack = record own { words = 0 + length own_words } ∷ f ∷ es; word_at = 0; word = [] }) (pushed own_events opens) end refl g.1 in
-    let last : Tokens = record y.rest { at = end_at; name = end.name; values = no_values } in
-    let all_events = events own.kind (depth + 1) inside_at no_word inside in
     let now = Closed (closing e.kind n tag inside end) ∷ pushed all_events opens in
-    let c = content_read k last f es no_word there now after h.1 in
-    let a : m + 1 ≡ inside_at = omega (arith, tag_length) in
-    let b : m ≡ inside_at - 1 = omega (arith, tag_length) in
-    let d : suc depth ≡ depth + 1 = omega arith in
-    let s : j + 1 + 1 ≡ there = omega (arith, end_length) in
-    let v : j + 1 ≡ end_at + length (end_text end) - 1 = omega (arith, end_length) in
-    let z : 0 + length own_words ≡ length own_words = omega arith in
+    let c = content_read k z.rest f es no_word there now after h.1 in
     let p : there + length (content_text after) ≡ n + length (content_text (ElementOf tag inside end after)) =
     omega (arith, length-append (start_text tag) (content_text inside ++ (end_text end ++ content_text after)), length-append (content_text inside) (end_text end ++ content_text after), length-append (end_text end) (content_text after)) in
     let q = counted_more e.words done (words_read (has_text e.kind) there no_word after) in
     let later = events e.kind depth there no_word after in
     let r = sym (pushed_more (read e.kind n done) (Opened (opening e.kind depth n tag (inside_at - 1)) ∷ (all_events ++ (Closed (closing e.kind n tag inside end) ∷ later))) told
     ∙ pushed_more all_events (Closed (closing e.kind n tag inside end) ∷ later) opens) in
+    let bytes = (tail_text tag ++ 62 ∷ []) ++ ((content_text inside ++ 60 ∷ []) ++ end_tail end) in
     record {
       rest = c.rest;
-      runs = ap (reads (Some (text_at (Inside k) t e es w n told))) (regroup (tail_text tag) (content_text inside) (end.name ++ (end.white ++ 62 ∷ [])) (content_text after))
-          ∙ then_reads (reading Open (Inside k) (n + 1) u before) (text_at (Inside (suc k)) x.rest own (f ∷ es) no_word inside_at opens) (tail_text tag ++ 62 ∷ []) _ _
-          (x.runs ∙ (λ i. Some (reading Text (Inside (suc k)) (a i) (record x.rest { stack = own ∷ f ∷ es; word_at = 0; word = [] }) (Opened (opening e.kind depth n tag (b i)) ∷ before))))
-          (then_reads (text_at (Inside (suc k)) x.rest own (f ∷ es) no_word inside_at opens) (less_at (Inside (suc k)) y.rest own (f ∷ es) end_at (0 + length own_words) (pushed own_events opens)) (content_text inside ++ 60 ∷ []) _ _
-          y.runs
-          (then_reads (less_at (Inside (suc k)) y.rest own (f ∷ es) end_at (0 + length own_words) (pushed own_events opens)) (text_at (Inside k) last f es no_word there now) (end_tail end) (content_text after ++ 60 ∷ []) _
-          (ended ∙ (λ i. Some (reading Text (Inside k) (s i) (record last { stack = f ∷ es; word_at = 0; word = [] })
-          (Closed (record { kind = own.kind; words = z i; is_misnamed = not (bytes_eq end.name tag.name); at = end_at; shown = v i }) ∷ pushed (events own.kind (d i) inside_at no_word inside) opens))))
-          (c.runs ∙ (λ i. Some (less_at (Inside k) c.rest e es (p i) (q i) (r i))))));
+      runs = ap (reads (Some (text_at (Inside k) t e es w n told))) (ap (λ v. v ++ 60 ∷ []) (element_parts (tail_text tag) (content_text inside) (end.name ++ (end.white ++ 62 ∷ [])) (content_text after)) ∙ ap (λ v. 60 ∷ v) (append_assoc bytes (content_text after) (60 ∷ [])))
+          ∙ then_reads (reading Open (Inside k) (n + 1) (record t { at = n; stack = f ∷ es; word_at = 0; word = [] }) before) (text_at (Inside k) z.rest f es no_word there now) bytes (content_text after ++ 60 ∷ []) _ z.runs
+          (c.runs ∙ (λ i. Some (less_at (Inside k) c.rest e es (p i) (q i) (r i))));
     }
-  where
-    regroup : (a b d c : List ℕ) → ((60 ∷ a ++ 62 ∷ []) ++ (b ++ ((60 ∷ 47 ∷ d) ++ c))) ++ 60 ∷ [] ≡ 60 ∷ ((a ++ 62 ∷ []) ++ ((b ++ 60 ∷ []) ++ ((47 ∷ d) ++ (c ++ 60 ∷ []))))
-    regroup a b d c =
-        ap (λ w. 60 ∷ w) (append_assoc (a ++ 62 ∷ []) (b ++ (60 ∷ 47 ∷ (d ++ c))) (60 ∷ []))
-        ∙ ap (λ w. 60 ∷ ((a ++ 62 ∷ []) ++ w)) (append_assoc b (60 ∷ 47 ∷ (d ++ c)) (60 ∷ []) ∙ ap (λ w. b ++ 60 ∷ 47 ∷ w) (append_assoc d c (60 ∷ [])) ∙ sym (append_assoc b (60 ∷ []) (47 ∷ (d ++ (c ++ 60 ∷ [])))))

@@ -2,9 +2,11 @@ pub mod Bytes
 pub mod FirstFaults
 pub mod Closing
 pub mod Following
+pub mod Accepts
 pub mod Accepting
 pub mod Running
 pub mod Skipping
+pub mod Attributes
 pub mod Tags
 pub mod Contents
 pub mod Totals
