@@ -1,6 +1,7 @@
 //! Documents, read from bytes that come in pieces.
 
-ghost use Rattle.std.specs.Prelude.{◌≡◌, ◌+◌, ◌<◌, ◌^◌, ◌++◌, ◌∷◌, [], ℕ, List, length, IfErr, IfOk, OnOk, MatchResult, Some, None};
+ghost use Rattle.std.specs.Prelude.{◌≡◌, ◌+◌, ◌<◌, ◌^◌, ◌++◌, ◌∷◌, [], ℕ, List, length, IfErr, IfOk, OnOk, MatchResult, Some, None, Err};
+ghost use Rattle.landxml_read.specs.declared.fault.ReadFault.TheVariants.{Memory};
 ghost use Rattle.landxml_read.specs.Markup.{Document};
 ghost use Rattle.landxml_read.specs.Answer.{IsTreeOf};
 ghost use Rattle.landxml_read.specs.Reader.{Reads, HasReadAll, IsEnd, IsEndOf};
@@ -102,6 +103,8 @@ impl Reader {
     pub fn finish(self) -> Result<(), ReadFault>
         ensures whole { (seen : List ℕ) → HasReadAll seen self → OnOk result ((d : Document) × IsTreeOf seen d) }
         ensures fault { (seen : List ℕ) → HasReadAll seen self → IfErr result (λ e. IsEndOf seen e) }
+        ensures same { (e : ReadFault) → self.ended ≡ Some e → result ≡ Err e }
+        ensures memory { result ≡ Err Memory → self.ended ≡ Some Memory }
     {
         match self.ended {
             Some(fault) => Err(fault),
