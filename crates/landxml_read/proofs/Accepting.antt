@@ -2,8 +2,8 @@
 use Rattle.std.proofs.Common.{◌≡◌, ℕ, Bool, true, false, ◌==◌, ◌&&◌, ◌||◌, cond, List, [], ◌∷◌, ◌++◌, codes, Option, None, Some, refl, sym, ◌∙◌, ap, subst, eqb-true}
 use Rattle.landxml_read.specs.Markup.{is_white, is_free, begins_name, is_in_name, is_in_value, Nothing, IsDocumentText}
 use Rattle.landxml_read.specs.declared.scan.Scan.{Scan}
-use Rattle.landxml_read.specs.declared.scan.Level.{Level}
-use Rattle.landxml_read.specs.declared.scan.Level.TheVariants.{Before, Inside, After}
+use Rattle.landxml_read.specs.declared.level.Level.{Level}
+use Rattle.landxml_read.specs.declared.level.Level.TheVariants.{Before, Inside, After}
 use Rattle.landxml_read.specs.declared.scan.Part.{Part}
 use Rattle.landxml_read.specs.declared.scan.Part.TheVariants.{Start, MarkFirst, MarkSecond, Text, Open, Bang, BangDash, Bracket, BracketC, BracketCd, BracketCda, BracketCdat, BracketCdata, In, Tag, EndOpen, EndName, EndWhite}
 use Rattle.landxml_read.specs.declared.skipped.Skipped.{Skipped}
@@ -11,68 +11,10 @@ use Rattle.landxml_read.specs.declared.skipped.Skipped.TheVariants.{Comment, Com
 use Rattle.landxml_read.specs.declared.tag.TagPart.{TagPart}
 use Rattle.landxml_read.specs.declared.tag.TagPart.TheVariants.{Name, White, Attribute, BeforeEquals, AfterEquals, DoubleQuoted, SingleQuoted, AfterValue, Slash}
 use Rattle.landxml_read.specs.Scan.{opened, passed, closed, is_inside, is_unclosed, at, only, text_next, open_next, bang_next, skipping, skipped_next, tag_end, white_or_end, before_quote, value_next, tag_next, end_next, part_next, next, is_final, run}
+use Rattle.landxml_read.proofs.Accepts.{Slashed, AcceptsSkipped, AcceptsTag, Accepts, Continues, by_test}
 use Rattle.landxml_read.proofs.Bytes.{both, and_is}
 use Rattle.landxml_read.proofs.Closing.{Until, until_more, until_end, twice, no_first, no_second, no_third, no_mark, no_close}
 use Rattle.landxml_read.proofs.Following.{Rest, IsOutside, white_on, byte_on, comment_on, instruction_on, cdata_on, Ending, by_open, by_empty, Attributes, Named, Spaced, Quoted, Valued, element_on, end_on, white_before, attribute_before, end_here}
-
--- a > and what may follow an empty element
-pub record Slashed (L : Level) (ys : List ℕ) : Type 0 where
-  pub rest : List ℕ
-  pub after : Rest (passed L) rest
-  pub text : ys ≡ 62 ∷ rest
-
--- what may follow in a comment, a processing instruction or CDATA
-abbrev pub AcceptsSkipped : Skipped → Level → List ℕ → Type 0
-AcceptsSkipped Comment L ys = Until (Rest L) (codes "-->") ys
-AcceptsSkipped CommentDash L ys = Until (Rest L) (codes "-->") (45 ∷ ys)
-AcceptsSkipped CommentDashes L ys = Until (Rest L) (codes "-->") (45 ∷ 45 ∷ ys)
-AcceptsSkipped Instruction L ys = Until (Rest L) (codes "?>") ys
-AcceptsSkipped InstructionMark L ys = Until (Rest L) (codes "?>") (63 ∷ ys)
-AcceptsSkipped CData L ys = Until (Rest L) (codes "]]>") ys
-AcceptsSkipped CDataBracket L ys = Until (Rest L) (codes "]]>") (93 ∷ ys)
-AcceptsSkipped CDataBrackets L ys = Until (Rest L) (codes "]]>") (93 ∷ 93 ∷ ys)
-
--- what may follow in a tag
-abbrev pub AcceptsTag : TagPart → Level → List ℕ → Type 0
-AcceptsTag Name L ys = Named (Attributes L) ys
-AcceptsTag White L ys = (w : ℕ) → is_white w ≡ true → Attributes L (w ∷ ys)
-AcceptsTag Attribute L ys = Named (Spaced (Valued L) 61) ys
-AcceptsTag BeforeEquals L ys = Spaced (Valued L) 61 ys
-AcceptsTag AfterEquals L ys = Valued L ys
-AcceptsTag DoubleQuoted L ys = Quoted L 34 ys
-AcceptsTag SingleQuoted L ys = Quoted L 39 ys
-AcceptsTag AfterValue L ys = Attributes L ys
-AcceptsTag Slash L ys = Slashed L ys
-
--- what may follow in a part at a level
-abbrev pub Accepts : Part → Level → List ℕ → Type 0
-Accepts Start L ys = L ≡ Before → IsDocumentText ys
-Accepts MarkFirst L ys = L ≡ Before → IsDocumentText (0xEF ∷ ys)
-Accepts MarkSecond L ys = L ≡ Before → IsDocumentText (0xEF ∷ 0xBB ∷ ys)
-Accepts Text L ys = Rest L ys
-Accepts Open L ys = Rest L (60 ∷ ys)
-Accepts Bang L ys = Rest L (60 ∷ 33 ∷ ys)
-Accepts BangDash L ys = Rest L (60 ∷ 33 ∷ 45 ∷ ys)
-Accepts Bracket L ys = is_inside L ≡ true → Rest L (codes "<![" ++ ys)
-Accepts BracketC L ys = is_inside L ≡ true → Rest L (codes "<![C" ++ ys)
-Accepts BracketCd L ys = is_inside L ≡ true → Rest L (codes "<![CD" ++ ys)
-Accepts BracketCda L ys = is_inside L ≡ true → Rest L (codes "<![CDA" ++ ys)
-Accepts BracketCdat L ys = is_inside L ≡ true → Rest L (codes "<![CDAT" ++ ys)
-Accepts BracketCdata L ys = is_inside L ≡ true → Rest L (codes "<![CDATA" ++ ys)
-Accepts (In part) L ys = AcceptsSkipped part L ys
-Accepts (Tag part) L ys = AcceptsTag part L ys
-Accepts EndOpen L ys = is_inside L ≡ true → Rest L (60 ∷ 47 ∷ ys)
-Accepts EndName L ys = Named (Spaced (Rest (closed L)) 62) ys
-Accepts EndWhite L ys = Spaced (Rest (closed L)) 62 ys
-
--- the scan goes on, and what may follow does
-abbrev pub Continues : Option Scan → List ℕ → Type 0
-Continues None ys = ⊥
-Continues (Some s) ys = Accepts s.part s.level ys
-
-by_test : (x : Bool) (o u : Option Scan) (ys : List ℕ) (G : Type 0) → (x ≡ true → Continues o ys → G) → (x ≡ false → Continues u ys → G) → Continues (cond x o u) ys → G
-by_test true o u ys G first second c = first refl c
-by_test false o u ys G first second c = second refl c
 
 -- a byte that must stand there
 by_only : (k b : ℕ) (L : Level) (part : Part) (ys : List ℕ) (G : ℕ → Type 0) → (Accepts part L ys → G k) → Continues (only k b L part) ys → G b
@@ -137,33 +79,33 @@ close_back R x b ys e r =
 by_skip : (L : Level) (part : Skipped) (b : ℕ) (ys : List ℕ) (G : Type 0) → (is_free b ≡ true → AcceptsSkipped part L ys → G) → Continues (skipping L part b) ys → G
 by_skip L part b ys G on c = by_test (is_free b) (at L (In part)) None ys G on (λ e n. absurd n) c
 
+-- after no such byte, after one, and after two or more
+first_back : (R : List ℕ → Type 0) (x b : ℕ) (L : Level) (none one : Skipped) (ys : List ℕ) → (AcceptsSkipped one L ys → Until R (twice x) (x ∷ ys)) → (AcceptsSkipped none L ys → Until R (twice x) ys)
+    → Continues (cond (b == x) (at L (In one)) (skipping L none b)) ys → Until R (twice x) (b ∷ ys)
+first_back R x b L none one ys on off c =
+    let P : ℕ → Type 0 = λ y. Until R (twice x) (y ∷ ys) in
+    by_test (b == x) (at L (In one)) _ ys (P b) (λ e a. subst P (sym (eqb-true b x e)) (on a)) (λ e d. by_skip L none b ys (P b) (λ f a. none_back R x b ys f e (off a)) d) c
+
+second_back : (R : List ℕ → Type 0) (x b : ℕ) (L : Level) (none two : Skipped) (ys : List ℕ) → is_free x ≡ true → (AcceptsSkipped two L ys → Until R (twice x) (x ∷ x ∷ ys)) → (AcceptsSkipped none L ys → Until R (twice x) ys)
+    → Continues (cond (b == x) (at L (In two)) (skipping L none b)) ys → Until R (twice x) (x ∷ b ∷ ys)
+second_back R x b L none two ys free on off c =
+    let P : ℕ → Type 0 = λ y. Until R (twice x) (x ∷ y ∷ ys) in
+    by_test (b == x) (at L (In two)) _ ys (P b) (λ e a. subst P (sym (eqb-true b x e)) (on a)) (λ e d. by_skip L none b ys (P b) (λ f a. one_back R x b ys free f e (off a)) d) c
+
+third_back : (x b : ℕ) (L : Level) (none two : Skipped) (ys : List ℕ) → is_free x ≡ true → (AcceptsSkipped two L ys → Until (Rest L) (twice x) (x ∷ x ∷ ys)) → (AcceptsSkipped none L ys → Until (Rest L) (twice x) ys)
+    → Continues (cond (b == 62) (at L Text) (cond (b == x) (at L (In two)) (skipping L none b))) ys → Until (Rest L) (twice x) (x ∷ x ∷ b ∷ ys)
+third_back x b L none two ys free on off c =
+    let G : Type 0 = Until (Rest L) (twice x) (x ∷ x ∷ b ∷ ys) in
+    by_test (b == 62) (at L Text) _ ys G (λ e a. close_back (Rest L) x b ys e a)
+    (λ f d. by_test (b == x) (at L (In two)) _ ys G (λ e a. more_back (Rest L) x b ys free e f (on a)) (λ e d. by_skip L none b ys G (λ g a. two_back (Rest L) x b ys free g e f (off a)) d) d) c
+
 skipped_back : (L : Level) (part : Skipped) (b : ℕ) (ys : List ℕ) → Continues (skipped_next L part b) ys → AcceptsSkipped part L (b ∷ ys)
-skipped_back L Comment b ys c =
-    let P : ℕ → Type 0 = λ x. Until (Rest L) (codes "-->") (x ∷ ys) in
-    by_test (b == 45) (at L (In CommentDash)) _ ys (P b) (λ e a. subst P (sym (eqb-true b 45 e)) a)
-    (λ e d. by_skip L Comment b ys (P b) (λ f a. none_back (Rest L) 45 b ys f e a) d) c
-skipped_back L CommentDash b ys c =
-    let P : ℕ → Type 0 = λ x. Until (Rest L) (codes "-->") (45 ∷ x ∷ ys) in
-    by_test (b == 45) (at L (In CommentDashes)) _ ys (P b) (λ e a. subst P (sym (eqb-true b 45 e)) a)
-    (λ e d. by_skip L Comment b ys (P b) (λ f a. one_back (Rest L) 45 b ys refl f e a) d) c
-skipped_back L CommentDashes b ys c =
-    let G : Type 0 = Until (Rest L) (codes "-->") (45 ∷ 45 ∷ b ∷ ys) in
-    by_test (b == 62) (at L Text) _ ys G (λ e a. close_back (Rest L) 45 b ys e a)
-    (λ f d. by_test (b == 45) (at L (In CommentDashes)) _ ys G (λ e a. more_back (Rest L) 45 b ys refl e f a)
-    (λ e d. by_skip L Comment b ys G (λ g a. two_back (Rest L) 45 b ys refl g e f a) d) d) c
-skipped_back L CData b ys c =
-    let P : ℕ → Type 0 = λ x. Until (Rest L) (codes "]]>") (x ∷ ys) in
-    by_test (b == 93) (at L (In CDataBracket)) _ ys (P b) (λ e a. subst P (sym (eqb-true b 93 e)) a)
-    (λ e d. by_skip L CData b ys (P b) (λ f a. none_back (Rest L) 93 b ys f e a) d) c
-skipped_back L CDataBracket b ys c =
-    let P : ℕ → Type 0 = λ x. Until (Rest L) (codes "]]>") (93 ∷ x ∷ ys) in
-    by_test (b == 93) (at L (In CDataBrackets)) _ ys (P b) (λ e a. subst P (sym (eqb-true b 93 e)) a)
-    (λ e d. by_skip L CData b ys (P b) (λ f a. one_back (Rest L) 93 b ys refl f e a) d) c
-skipped_back L CDataBrackets b ys c =
-    let G : Type 0 = Until (Rest L) (codes "]]>") (93 ∷ 93 ∷ b ∷ ys) in
-    by_test (b == 62) (at L Text) _ ys G (λ e a. close_back (Rest L) 93 b ys e a)
-    (λ f d. by_test (b == 93) (at L (In CDataBrackets)) _ ys G (λ e a. more_back (Rest L) 93 b ys refl e f a)
-    (λ e d. by_skip L CData b ys G (λ g a. two_back (Rest L) 93 b ys refl g e f a) d) d) c
+skipped_back L Comment b ys c = first_back (Rest L) 45 b L Comment CommentDash ys (λ a. a) (λ a. a) c
+skipped_back L CommentDash b ys c = second_back (Rest L) 45 b L Comment CommentDashes ys refl (λ a. a) (λ a. a) c
+skipped_back L CommentDashes b ys c = third_back 45 b L Comment CommentDashes ys refl (λ a. a) (λ a. a) c
+skipped_back L CData b ys c = first_back (Rest L) 93 b L CData CDataBracket ys (λ a. a) (λ a. a) c
+skipped_back L CDataBracket b ys c = second_back (Rest L) 93 b L CData CDataBrackets ys refl (λ a. a) (λ a. a) c
+skipped_back L CDataBrackets b ys c = third_back 93 b L CData CDataBrackets ys refl (λ a. a) (λ a. a) c
 skipped_back L Instruction b ys c =
     let P : ℕ → Type 0 = λ x. Until (Rest L) (codes "?>") (x ∷ ys) in
     by_test (b == 63) (at L (In InstructionMark)) _ ys (P b) (λ e a. subst P (sym (eqb-true b 63 e)) a)

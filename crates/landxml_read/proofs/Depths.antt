@@ -4,8 +4,8 @@ use Rattle.std.proofs.lemmas.List.{append-nil}
 use Rattle.landxml_read.proofs.Scanning.{run_more}
 use Rattle.landxml_read.specs.Markup.{is_white, is_free, begins_name, is_in_name, is_in_value}
 use Rattle.landxml_read.specs.declared.scan.Scan.{Scan}
-use Rattle.landxml_read.specs.declared.scan.Level.{Level}
-use Rattle.landxml_read.specs.declared.scan.Level.TheVariants.{Before, Inside, After}
+use Rattle.landxml_read.specs.declared.level.Level.{Level}
+use Rattle.landxml_read.specs.declared.level.Level.TheVariants.{Before, Inside, After}
 use Rattle.landxml_read.specs.declared.scan.Part.{Part}
 use Rattle.landxml_read.specs.declared.scan.Part.TheVariants.{Start, MarkFirst, MarkSecond, Text, Open, Bang, BangDash, Bracket, BracketC, BracketCd, BracketCda, BracketCdat, BracketCdata, In, Tag, EndOpen, EndName, EndWhite}
 use Rattle.landxml_read.specs.declared.skipped.Skipped.{Skipped}

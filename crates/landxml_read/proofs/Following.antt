@@ -2,8 +2,8 @@
 use Rattle.std.proofs.Common.{◌≡◌, ℕ, zero, suc, true, false, ◌==◌, not, List, [], ◌∷◌, ◌++◌, codes, flat_map, refl, sym, ◌∙◌, ap, subst, append_assoc}
 use Rattle.std.specs.List.{list_all}
 use Rattle.landxml_read.specs.Markup.{is_white, is_free, begins_name, is_in_name, is_gap, is_quote, is_in_value, Attribute, StartTag, EndTag, is_attribute, is_start, is_end, attribute_text, tag_text, start_text, empty_text, end_text, Content, Nothing, Byte, Comment, Instruction, CData, Empty, Element, is_content, is_outside, content_text}
-use Rattle.landxml_read.specs.declared.scan.Level.{Level}
-use Rattle.landxml_read.specs.declared.scan.Level.TheVariants.{Before, Inside, After}
+use Rattle.landxml_read.specs.declared.level.Level.{Level}
+use Rattle.landxml_read.specs.declared.level.Level.TheVariants.{Before, Inside, After}
 use Rattle.landxml_read.specs.Scan.{opened, passed, closed, is_unclosed}
 use Rattle.landxml_read.proofs.Bytes.{both, and_is, white_free, differs}
 use Rattle.landxml_read.proofs.Closing.{Until}

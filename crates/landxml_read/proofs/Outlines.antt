@@ -45,15 +45,16 @@ later P seen rest k begins f = by (nat_lt k (length seen)) refl
         let Q : List ℕ → Type 0 = Begins P in
         absurd (f.not_allowed (omega (arith, length-append seen rest)) (subst Q (sym (take-append-le (k + 1) seen rest (omega arith))) (begins_take P seen (k + 1) begins)))
 
--- what the bytes show is shown no sooner than where both stand
-shown_later : (seen rest : List ℕ) (g : Fault) → Begins IsUtf8 seen → Begins IsDocumentText seen → ShowsOutline (seen ++ rest) g → length seen ≤ g.show
-shown_later seen rest g u d s = by g.cause s
+-- the four causes of encoding and markup
+pub outline_cases : (bytes : List ℕ) (f : Fault) (P : DocCause → Type 0) → ShowsOutline bytes f → (ShowsOutline bytes (record f { cause = Utf8 }) → P Utf8) → (ShowsOutline bytes (record f { cause = Doctype }) → P Doctype)
+    → (ShowsOutline bytes (record f { cause = Syntax }) → P Syntax) → (ShowsOutline bytes (record f { cause = Cut }) → P Cut) → P f.cause
+outline_cases bytes f P h utf8 doctype syntax cut = by f.cause h
   where
-    by : (c : DocCause) → ShowsOutline (seen ++ rest) (record g { cause = c }) → length seen ≤ g.show
-    by Utf8 h = later IsUtf8 seen rest g.show u h.0
-    by Doctype h = later IsDocumentText seen rest g.show d h.0.0
-    by Syntax h = later IsDocumentText seen rest g.show d h.0.0
-    by Cut h = later IsDocumentText seen rest g.show d h.0.0
+    by : (c : DocCause) → ShowsOutline bytes (record f { cause = c }) → P c
+    by Utf8 h = utf8 h
+    by Doctype h = doctype h
+    by Syntax h = syntax h
+    by Cut h = cut h
     by Root h = absurd h
     by Depth h = absurd h
     by Tag h = absurd h
@@ -71,6 +72,12 @@ shown_later seen rest g u d s = by g.cause s
     by NoHeight h = absurd h
     by Id h = absurd h
     by Face h = absurd h
+
+-- what the bytes show is shown no sooner than where both stand
+pub shown_later : (seen rest : List ℕ) (g : Fault) → Begins IsUtf8 seen → Begins IsDocumentText seen → ShowsOutline (seen ++ rest) g → length seen ≤ g.show
+shown_later seen rest g u d s =
+    outline_cases (seen ++ rest) g (λ _. length seen ≤ g.show) s (λ h. later IsUtf8 seen rest g.show u h.0) (λ h. later IsDocumentText seen rest g.show d h.0.0) (λ h. later IsDocumentText seen rest g.show d h.0.0)
+    (λ h. later IsDocumentText seen rest g.show d h.0.0)
 
 -- UTF-8 doesn't go on with the byte
 pub utf8_shown : (seen : List ℕ) (s : Standing) (b : ℕ) (more : List ℕ) → StandsAt seen s → utf8_next s.utf8 b ≡ None → IsOutlineFault (seen ++ b ∷ more) (fault (length seen) Utf8 s.sequence)
@@ -110,7 +117,10 @@ pub syntax_shown : (seen : List ℕ) (s : Standing) (b : ℕ) (more : List ℕ) 
     → IsOutlineFault (seen ++ b ∷ more) (fault (length seen) Syntax s.offset)
 syntax_shown seen s b more t at u none other = record {
   shown = ((fault_at IsDocumentText seen b more (begun seen s.scan at.scan) (λ rest d. not_begun seen s.scan b rest at.scan none d), omega (arith, length-append seen (b ∷ more))), at.offset);
-  first = λ g h. let less = shown_later seen (b ∷ more) g (utf8_begun seen s.utf8 at.utf8) (begun seen s.scan at.scan) h in by g g.cause less h;
+  first = λ g h. let less = shown_later seen (b ∷ more) g (utf8_begun seen s.utf8 at.utf8) (begun seen s.scan at.scan) h in
+      let f = fault (length seen) Syntax s.offset in
+      outline_cases (seen ++ b ∷ more) g (λ c. IsBefore f (record g { cause = c })) h (λ k. sooner f (record g { cause = Utf8 }) (not_of_utf8 seen s b more t at u g k.0))
+      (λ k. sooner f (record g { cause = Doctype }) (never g less k.1 k.2 (nat_lt (length seen) g.show) refl)) (λ k. before f (record g { cause = Syntax }) less (omega arith)) (λ k. before f (record g { cause = Cut }) less (omega arith));
 }
   where
     never : (g : Fault) → length seen ≤ g.show → g.place + 2 ≡ g.show → take 3 (drop g.place (seen ++ b ∷ more)) ≡ codes "<!D" → (r : Bool) → nat_lt (length seen) g.show ≡ r → length seen < g.show
@@ -122,29 +132,6 @@ syntax_shown seen s b more t at u none other = record {
         let bang = only_bang (take g.place seen) s.scan after (ap (next s.scan) (sym x.byte) ∙ none) in
         let both_true : (b == 68 && is_bang s.scan.part) ≡ true = ap (λ y. y == 68 && is_bang s.scan.part) x.byte ∙ bang in
         cc
-
-    by : (g : Fault) (c : DocCause) → length seen ≤ g.show → ShowsOutline (seen ++ b ∷ more) (record g { cause = c }) → IsBefore (fault (length seen) Syntax s.offset) (record g { cause = c })
-    by g Utf8 less h = sooner (fault (length seen) Syntax (s.offset)) (record g { cause = Utf8 }) (not_of_utf8 seen s b more t at u g h.0)
-    by g Doctype less h = sooner (fault (length seen) Syntax (s.offset)) (record g { cause = Doctype }) (never g less h.1 h.2 (nat_lt (length seen) g.show) refl)
-    by g Syntax less h = before (fault (length seen) Syntax (s.offset)) (record g { cause = Syntax }) less (omega arith)
-    by g Cut less h = before (fault (length seen) Syntax (s.offset)) (record g { cause = Cut }) less (omega arith)
-    by g Root less h = absurd h
-    by g Depth less h = absurd h
-    by g Tag less h = absurd h
-    by g Long less h = absurd h
-    by g Entity less h = absurd h
-    by g Attr less h = absurd h
-    by g BadUnit less h = absurd h
-    by g SurfType less h = absurd h
-    by g BrkType less h = absurd h
-    by g BndType less h = absurd h
-    by g Number less h = absurd h
-    by g Big less h = absurd h
-    by g Count less h = absurd h
-    by g Range less h = absurd h
-    by g NoHeight less h = absurd h
-    by g Id less h = absurd h
-    by g Face less h = absurd h
 
 -- the scan doesn't take a D after <!
 pub doctype_shown : (seen : List ℕ) (s : Standing) (b : ℕ) (more : List ℕ) (t : State) → StandsAt seen s → utf8_next s.utf8 b ≡ Some t → next s.scan b ≡ None → (b == 68 && is_bang s.scan.part) ≡ true
@@ -162,31 +149,11 @@ doctype_shown seen s b more t at u none is =
         omega arith,
         ap (λ n. take 3 (drop n (seen ++ b ∷ more))) place ∙ ap (take 3) text ∙ ap (λ x. 60 ∷ 33 ∷ x ∷ []) byte,
       );
-      first = λ g h. let less = shown_later seen (b ∷ more) g (utf8_begun seen s.utf8 at.utf8) (begun seen s.scan at.scan) h in by g g.cause less h;
+      first = λ g h. let less = shown_later seen (b ∷ more) g (utf8_begun seen s.utf8 at.utf8) (begun seen s.scan at.scan) h in
+          let f = fault (length seen) Doctype (s.offset - 2) in
+          outline_cases (seen ++ b ∷ more) g (λ c. IsBefore f (record g { cause = c })) h (λ k. sooner f (record g { cause = Utf8 }) (not_of_utf8 seen s b more t at u g k.0))
+          (λ k. before f (record g { cause = Doctype }) less (omega arith)) (λ k. before f (record g { cause = Syntax }) less (omega arith)) (λ k. before f (record g { cause = Cut }) less (omega arith));
     }
-  where
-    by : (g : Fault) (c : DocCause) → length seen ≤ g.show → ShowsOutline (seen ++ b ∷ more) (record g { cause = c }) → IsBefore (fault (length seen) Doctype (s.offset - 2)) (record g { cause = c })
-    by g Utf8 less h = sooner (fault (length seen) Doctype (s.offset - 2)) (record g { cause = Utf8 }) (not_of_utf8 seen s b more t at u g h.0)
-    by g Doctype less h = before (fault (length seen) Doctype (s.offset - 2)) (record g { cause = Doctype }) less (omega arith)
-    by g Syntax less h = before (fault (length seen) Doctype (s.offset - 2)) (record g { cause = Syntax }) less (omega arith)
-    by g Cut less h = before (fault (length seen) Doctype (s.offset - 2)) (record g { cause = Cut }) less (omega arith)
-    by g Root less h = absurd h
-    by g Depth less h = absurd h
-    by g Tag less h = absurd h
-    by g Long less h = absurd h
-    by g Entity less h = absurd h
-    by g Attr less h = absurd h
-    by g BadUnit less h = absurd h
-    by g SurfType less h = absurd h
-    by g BrkType less h = absurd h
-    by g BndType less h = absurd h
-    by g Number less h = absurd h
-    by g Big less h = absurd h
-    by g Count less h = absurd h
-    by g Range less h = absurd h
-    by g NoHeight less h = absurd h
-    by g Id less h = absurd h
-    by g Face less h = absurd h
 
 -- the scan doesn't take the byte
 pub stray_shown : (seen : List ℕ) (s : Standing) (b : ℕ) (more : List ℕ) (t : State) (f : DocFault) → StandsAt seen s → utf8_next s.utf8 b ≡ Some t → next s.scan b ≡ None → IsStrayFault s b f
@@ -248,34 +215,13 @@ utf8_at_end seen s at busy = record {
 pub cut_at_end : (seen : List ℕ) (s : Standing) → StandsAt seen s → IsUtf8 seen → is_final s.scan ≡ false → IsOutlineFault seen (fault (length seen) Cut s.offset)
 cut_at_end seen s at utf8 early = record {
   shown = ((no_fault IsDocumentText seen (begun seen s.scan at.scan), not_whole seen s.scan at.scan early, refl), at.offset);
-  first = λ g h. by g g.cause (ends_later seen s g at h) h;
+  first = λ g h. let less = ends_later seen s g at h in
+      outline_cases seen g (λ c. IsBefore (fault (length seen) Cut s.offset) (record g { cause = c })) h (λ k. absurd (all_utf8 g.place k.2 k.1)) (λ k. absurd (omega (arith, k.0.1, less))) (λ k. absurd (omega (arith, k.0.1, less)))
+      (λ k. before (fault (length seen) Cut s.offset) (record g { cause = Cut }) less (omega arith));
 }
   where
     all_utf8 : (n : ℕ) → n < length seen → IsLastUtf8 seen n → ⊥
     all_utf8 n less last = let Q : List ℕ → Type 0 = IsUtf8 in last.last (length seen) less (omega arith) (subst Q (sym (take-length seen)) utf8)
-
-    by : (g : Fault) (c : DocCause) → length seen ≤ g.show → ShowsOutline seen (record g { cause = c }) → IsBefore (fault (length seen) Cut s.offset) (record g { cause = c })
-    by g Utf8 less h = absurd (all_utf8 g.place h.2 h.1)
-    by g Doctype less h = absurd (omega (arith, h.0.1))
-    by g Syntax less h = absurd (omega (arith, h.0.1))
-    by g Cut less h = before (fault (length seen) Cut (s.offset)) (record g { cause = Cut }) less (omega arith)
-    by g Root less h = absurd h
-    by g Depth less h = absurd h
-    by g Tag less h = absurd h
-    by g Long less h = absurd h
-    by g Entity less h = absurd h
-    by g Attr less h = absurd h
-    by g BadUnit less h = absurd h
-    by g SurfType less h = absurd h
-    by g BrkType less h = absurd h
-    by g BndType less h = absurd h
-    by g Number less h = absurd h
-    by g Big less h = absurd h
-    by g Count less h = absurd h
-    by g Range less h = absurd h
-    by g NoHeight less h = absurd h
-    by g Id less h = absurd h
-    by g Face less h = absurd h
 
 -- no sequence is open
 pub utf8_whole : (seen : List ℕ) (s : Standing) → StandsAt seen s → is_ready s.utf8 ≡ true → IsUtf8 seen

@@ -1,15 +1,17 @@
--- The scan passes comments, processing instructions and CDATA.
-use Rattle.std.proofs.Common.{◌≡◌, ℕ, Bool, true, false, ◌==◌, ◌&&◌, cond, List, [], ◌∷◌, ◌++◌, codes, bytes_eq, take, refl, sym, ◌∙◌, ap, eqb-true}
+-- A reading passes comments, processing instructions and CDATA.
+use Rattle.std.proofs.Common.{◌≡◌, ℕ, ◌+◌, Bool, true, false, ◌==◌, ◌&&◌, cond, List, [], ◌∷◌, ◌++◌, length, codes, bytes_eq, take, Option, Some, refl, sym, ◌∙◌, ap, arith, eqb-true}
 use Rattle.landxml_read.specs.Markup.{is_free, is_up_to}
-use Rattle.landxml_read.specs.declared.scan.Level.{Level}
-use Rattle.landxml_read.specs.declared.scan.Level.TheVariants.{Inside}
+use Rattle.landxml_read.specs.declared.level.Level.{Level}
 use Rattle.landxml_read.specs.declared.scan.Part.TheVariants.{Text, In}
 use Rattle.landxml_read.specs.declared.skipped.Skipped.{Skipped}
 use Rattle.landxml_read.specs.declared.skipped.Skipped.TheVariants.{Comment, CommentDash, CommentDashes, Instruction, InstructionMark, CData, CDataBracket, CDataBrackets}
+use Rattle.landxml_read.specs.declared.tokens.Tokens.{Tokens}
+use Rattle.landxml_read.specs.Events.{Event}
 use Rattle.landxml_read.specs.Scan.{at, skipping, skipped_next}
+use Rattle.landxml_read.specs.Tokens.{Reading, reads}
 use Rattle.landxml_read.proofs.Bytes.{both, clash, flip_true}
 use Rattle.landxml_read.proofs.Closing.{twice}
-use Rattle.landxml_read.proofs.Running.{scan, from, if_true, if_false, step}
+use Rattle.landxml_read.proofs.Running.{scan, reading, if_true, if_false, goes}
 
 -- what is skipped up to a byte twice and >
 record Twice (L : Level) (x : ℕ) (none one two : Skipped) : Type 0 where
@@ -25,98 +27,119 @@ up_after end y ys up = (both _ _ up).1
 up_free : (end : List ℕ) (y : ℕ) (ys : List ℕ) → is_up_to end (y ∷ ys) ≡ true → is_free y ≡ true
 up_free end y ys up = (both _ _ (both _ _ up).0).1
 
-record Skips (L : Level) (x : ℕ) (none one two : Skipped) (bytes rest : List ℕ) : Type 0 where
-  first : is_up_to (twice x) bytes ≡ true → from (In none) L (bytes ++ (twice x ++ rest)) ≡ from Text L rest
-  second : is_up_to (twice x) (x ∷ bytes) ≡ true → from (In one) L (bytes ++ (twice x ++ rest)) ≡ from Text L rest
-  third : is_up_to (twice x) (x ∷ x ∷ bytes) ≡ true → from (In two) L (bytes ++ (twice x ++ rest)) ≡ from Text L rest
+-- the reading in something that is skipped
+abbrev within : Level → Tokens → List Event → Skipped → ℕ → Reading
+within L t told part n = reading (In part) L n t told
 
-skips : (L : Level) (x : ℕ) (none one two : Skipped) → Twice L x none one two → (bytes rest : List ℕ) → Skips L x none one two bytes rest
-skips L x none one two t [] rest =
-    let up = t.first x ∙ if_true (x == x) _ _ t.itself in
-    let on = t.second x ∙ if_true (x == x) _ _ t.itself in
-    let again = t.third x ∙ if_false (x == 62) _ _ t.apart ∙ if_true (x == x) _ _ t.itself in
-    let out = step (scan (In two) L) 62 (scan Text L) rest (t.third 62) in
-    let last = step (scan (In one) L) x (scan (In two) L) (62 ∷ rest) on ∙ out in
-    let kept = step (scan (In two) L) x (scan (In two) L) (62 ∷ rest) again ∙ out in
+-- a byte in it
+on_in : (L : Level) (t : Tokens) (told : List Event) (part to : Skipped) (n b : ℕ) (bs : List ℕ) (o : Option Reading) → skipped_next L part b ≡ at L (In to) → reads (Some (within L t told to (n + 1))) bs ≡ o
+    → reads (Some (within L t told part n)) (b ∷ bs) ≡ o
+on_in L t told part to n b bs o e h = goes (within L t told part n) b (scan (In to) L) bs o e h
+
+-- the byte that ends it
+out_of : (L : Level) (t : Tokens) (told : List Event) (part : Skipped) (n : ℕ) → skipped_next L part 62 ≡ at L Text → reads (Some (within L t told part n)) (62 ∷ []) ≡ Some (reading Text L (n + 1) t told)
+out_of L t told part n e = goes (within L t told part n) 62 (scan Text L) [] _ e refl
+
+record Skips (L : Level) (t : Tokens) (told : List Event) (x : ℕ) (none one two : Skipped) (bytes : List ℕ) (n : ℕ) : Type 0 where
+  first : (m : ℕ) → m ≡ n + length bytes + 3 → is_up_to (twice x) bytes ≡ true → reads (Some (within L t told none n)) (bytes ++ twice x) ≡ Some (reading Text L m t told)
+  second : (m : ℕ) → m ≡ n + length bytes + 3 → is_up_to (twice x) (x ∷ bytes) ≡ true → reads (Some (within L t told one n)) (bytes ++ twice x) ≡ Some (reading Text L m t told)
+  third : (m : ℕ) → m ≡ n + length bytes + 3 → is_up_to (twice x) (x ∷ x ∷ bytes) ≡ true → reads (Some (within L t told two n)) (bytes ++ twice x) ≡ Some (reading Text L m t told)
+
+skips : (L : Level) (t : Tokens) (told : List Event) (x : ℕ) (none one two : Skipped) → Twice L x none one two → (bytes : List ℕ) (n : ℕ) → Skips L t told x none one two bytes n
+skips L t told x none one two w [] n =
+    let up = w.first x ∙ if_true (x == x) _ _ w.itself in
+    let on = w.second x ∙ if_true (x == x) _ _ w.itself in
+    let again = w.third x ∙ if_false (x == 62) _ _ w.apart ∙ if_true (x == x) _ _ w.itself in
+    let out : (m : ℕ) → m ≡ n + 0 + 3 → reads (Some (within L t told two (n + 1 + 1))) (62 ∷ []) ≡ Some (reading Text L m t told) =
+    λ m e. out_of L t told two (n + 1 + 1) (w.third 62) ∙ (let g : n + 1 + 1 + 1 ≡ m = omega arith in λ i. Some (reading Text L (g i) t told)) in
     record {
-      first = λ _. step (scan (In none) L) x (scan (In one) L) (x ∷ 62 ∷ rest) up ∙ last;
-      second = λ _. step (scan (In one) L) x (scan (In two) L) (x ∷ 62 ∷ rest) on ∙ kept;
-      third = λ _. step (scan (In two) L) x (scan (In two) L) (x ∷ 62 ∷ rest) again ∙ kept;
+      first = λ m e _. on_in L t told none one n x (x ∷ 62 ∷ []) _ up (on_in L t told one two (n + 1) x (62 ∷ []) _ on (out m e));
+      second = λ m e _. on_in L t told one two n x (x ∷ 62 ∷ []) _ on (on_in L t told two two (n + 1) x (62 ∷ []) _ again (out m e));
+      third = λ m e _. on_in L t told two two n x (x ∷ 62 ∷ []) _ again (on_in L t told two two (n + 1) x (62 ∷ []) _ again (out m e));
     }
-skips L x none one two t (b ∷ bs) rest = by (skips L x none one two t bs rest) (b == x) refl (b == 62) refl
+skips L t told x none one two w (b ∷ bs) n = by (skips L t told x none one two w bs (n + 1)) (b == x) refl (b == 62) refl
   where
+    less : (m : ℕ) → m ≡ n + length (b ∷ bs) + 3 → m ≡ n + 1 + length bs + 3
+    less m e = omega arith
+
     renamed : (front : List ℕ) → b ≡ x → is_up_to (twice x) (front ++ b ∷ bs) ≡ true → is_up_to (twice x) (front ++ x ∷ bs) ≡ true
     renamed front e up = ap (λ y. is_up_to (twice x) (front ++ y ∷ bs)) (sym e) ∙ up
 
     ended : is_up_to (twice x) (x ∷ x ∷ b ∷ bs) ≡ true → (b == 62) ≡ true → ⊥
     ended up e =
         let there : bytes_eq (take 3 (x ∷ x ∷ b ∷ bs ++ twice x)) (twice x) ≡ true =
-        ap (λ u. u && (u && (b == 62 && bytes_eq (take 0 (bs ++ twice x)) []))) t.itself ∙ ap (λ u. u && bytes_eq (take 0 (bs ++ twice x)) []) e in
+        ap (λ u. u && (u && (b == 62 && bytes_eq (take 0 (bs ++ twice x)) []))) w.itself ∙ ap (λ u. u && bytes_eq (take 0 (bs ++ twice x)) []) e in
         clash _ there (flip_true _ (both _ _ (both _ _ up).0).0)
 
-    by : Skips L x none one two bs rest → (c : Bool) → (b == x) ≡ c → (d : Bool) → (b == 62) ≡ d → Skips L x none one two (b ∷ bs) rest
+    other : is_up_to (twice x) (x ∷ x ∷ b ∷ bs) ≡ true → (d : Bool) → (b == 62) ≡ d → (b == 62) ≡ false
+    other up true f = absurd (ended up f)
+    other up false f = f
+
+    by : Skips L t told x none one two bs (n + 1) → (c : Bool) → (b == x) ≡ c → (d : Bool) → (b == 62) ≡ d → Skips L t told x none one two (b ∷ bs) n
     by s true e d f =
         let same = eqb-true b x e in
         record {
-          first = λ up. step (scan (In none) L) b (scan (In one) L) (bs ++ (twice x ++ rest)) (t.first b ∙ if_true (b == x) _ _ e) ∙ s.second (renamed [] same up);
-          second = λ up. step (scan (In one) L) b (scan (In two) L) (bs ++ (twice x ++ rest)) (t.second b ∙ if_true (b == x) _ _ e) ∙ s.third (renamed (x ∷ []) same up);
-          third = λ up.
-              step (scan (In two) L) b (scan (In two) L) (bs ++ (twice x ++ rest)) (t.third b ∙ if_false (b == 62) _ _ (ap (λ y. y == 62) same ∙ t.apart) ∙ if_true (b == x) _ _ e)
-              ∙ s.third (renamed (x ∷ []) same (up_after (twice x) x (x ∷ b ∷ bs) up));
+          first = λ m g up. on_in L t told none one n b (bs ++ twice x) _ (w.first b ∙ if_true (b == x) _ _ e) (s.second m (less m g) (renamed [] same up));
+          second = λ m g up. on_in L t told one two n b (bs ++ twice x) _ (w.second b ∙ if_true (b == x) _ _ e) (s.third m (less m g) (renamed (x ∷ []) same up));
+          third = λ m g up.
+              on_in L t told two two n b (bs ++ twice x) _ (w.third b ∙ if_false (b == 62) _ _ (ap (λ y. y == 62) same ∙ w.apart) ∙ if_true (b == x) _ _ e)
+              (s.third m (less m g) (renamed (x ∷ []) same (up_after (twice x) x (x ∷ b ∷ bs) up)));
         }
     by s false e d f = record {
-      first = λ up.
-          step (scan (In none) L) b (scan (In none) L) (bs ++ (twice x ++ rest)) (t.first b ∙ if_false (b == x) _ _ e ∙ if_true (is_free b) _ _ (up_free (twice x) b bs up))
-          ∙ s.first (up_after (twice x) b bs up);
-      second = λ up.
+      first = λ m g up. on_in L t told none none n b (bs ++ twice x) _ (w.first b ∙ if_false (b == x) _ _ e ∙ if_true (is_free b) _ _ (up_free (twice x) b bs up)) (s.first m (less m g) (up_after (twice x) b bs up));
+      second = λ m g up.
           let inner = up_after (twice x) x (b ∷ bs) up in
-          step (scan (In one) L) b (scan (In none) L) (bs ++ (twice x ++ rest)) (t.second b ∙ if_false (b == x) _ _ e ∙ if_true (is_free b) _ _ (up_free (twice x) b bs inner))
-          ∙ s.first (up_after (twice x) b bs inner);
-      third = λ up.
+          on_in L t told one none n b (bs ++ twice x) _ (w.second b ∙ if_false (b == x) _ _ e ∙ if_true (is_free b) _ _ (up_free (twice x) b bs inner)) (s.first m (less m g) (up_after (twice x) b bs inner));
+      third = λ m g up.
           let inner = up_after (twice x) x (b ∷ bs) (up_after (twice x) x (x ∷ b ∷ bs) up) in
-          step (scan (In two) L) b (scan (In none) L) (bs ++ (twice x ++ rest))
-          (t.third b ∙ if_false (b == 62) _ _ (other up d f) ∙ if_false (b == x) _ _ e ∙ if_true (is_free b) _ _ (up_free (twice x) b bs inner)) ∙ s.first (up_after (twice x) b bs inner);
+          on_in L t told two none n b (bs ++ twice x) _ (w.third b ∙ if_false (b == 62) _ _ (other up d f) ∙ if_false (b == x) _ _ e ∙ if_true (is_free b) _ _ (up_free (twice x) b bs inner))
+          (s.first m (less m g) (up_after (twice x) b bs inner));
     }
-      where
-        other : is_up_to (twice x) (x ∷ x ∷ b ∷ bs) ≡ true → (d : Bool) → (b == 62) ≡ d → (b == 62) ≡ false
-        other up true f = absurd (ended up f)
-        other up false f = f
 
-pub comment_run : (L : Level) (bytes rest : List ℕ) → is_up_to (codes "-->") bytes ≡ true → from Text L (codes "<!--" ++ (bytes ++ (codes "-->" ++ rest))) ≡ from Text L rest
-comment_run L bytes rest up =
-    let t : Twice L 45 Comment CommentDash CommentDashes = record { first = λ b. refl; second = λ b. refl; third = λ b. refl; itself = refl; apart = refl } in
-    (skips L 45 Comment CommentDash CommentDashes t bytes rest).first up
+-- from its first byte to its end
+pub comment_read : (L : Level) (t : Tokens) (told : List Event) (bytes : List ℕ) (n m : ℕ) → m ≡ n + length bytes + 3 → is_up_to (codes "-->") bytes ≡ true → reads (Some (reading (In Comment) L n t told)) (bytes ++ codes "-->") ≡ Some (reading Text L m t told)
+comment_read L t told bytes n m e up =
+    let w : Twice L 45 Comment CommentDash CommentDashes = record { first = λ b. refl; second = λ b. refl; third = λ b. refl; itself = refl; apart = refl } in
+    (skips L t told 45 Comment CommentDash CommentDashes w bytes n).first m e up
 
-pub cdata_run : (k : ℕ) (bytes rest : List ℕ) → is_up_to (codes "]]>") bytes ≡ true → from Text (Inside k) (codes "<![CDATA[" ++ (bytes ++ (codes "]]>" ++ rest))) ≡ from Text (Inside k) rest
-cdata_run k bytes rest up =
-    let t : Twice (Inside k) 93 CData CDataBracket CDataBrackets = record { first = λ b. refl; second = λ b. refl; third = λ b. refl; itself = refl; apart = refl } in
-    (skips (Inside k) 93 CData CDataBracket CDataBrackets t bytes rest).first up
+pub cdata_read : (L : Level) (t : Tokens) (told : List Event) (bytes : List ℕ) (n m : ℕ) → m ≡ n + length bytes + 3 → is_up_to (codes "]]>") bytes ≡ true → reads (Some (reading (In CData) L n t told)) (bytes ++ codes "]]>") ≡ Some (reading Text L m t told)
+cdata_read L t told bytes n m e up =
+    let w : Twice L 93 CData CDataBracket CDataBrackets = record { first = λ b. refl; second = λ b. refl; third = λ b. refl; itself = refl; apart = refl } in
+    (skips L t told 93 CData CDataBracket CDataBrackets w bytes n).first m e up
 
-record SkipsMark (L : Level) (bytes rest : List ℕ) : Type 0 where
-  first : is_up_to (codes "?>") bytes ≡ true → from (In Instruction) L (bytes ++ (codes "?>" ++ rest)) ≡ from Text L rest
-  second : is_up_to (codes "?>") (63 ∷ bytes) ≡ true → from (In InstructionMark) L (bytes ++ (codes "?>" ++ rest)) ≡ from Text L rest
+record SkipsMark (L : Level) (t : Tokens) (told : List Event) (bytes : List ℕ) (n : ℕ) : Type 0 where
+  first : (m : ℕ) → m ≡ n + length bytes + 2 → is_up_to (codes "?>") bytes ≡ true → reads (Some (within L t told Instruction n)) (bytes ++ codes "?>") ≡ Some (reading Text L m t told)
+  second : (m : ℕ) → m ≡ n + length bytes + 2 → is_up_to (codes "?>") (63 ∷ bytes) ≡ true → reads (Some (within L t told InstructionMark n)) (bytes ++ codes "?>") ≡ Some (reading Text L m t told)
 
-skips_mark : (L : Level) (bytes rest : List ℕ) → SkipsMark L bytes rest
-skips_mark L [] rest = record { first = λ _. refl; second = λ _. refl }
-skips_mark L (b ∷ bs) rest = by (skips_mark L bs rest) (b == 63) refl (b == 62) refl
+skips_mark : (L : Level) (t : Tokens) (told : List Event) (bytes : List ℕ) (n : ℕ) → SkipsMark L t told bytes n
+skips_mark L t told [] n =
+    let out : (m : ℕ) → m ≡ n + 0 + 2 → reads (Some (within L t told InstructionMark (n + 1))) (62 ∷ []) ≡ Some (reading Text L m t told) =
+    λ m e. out_of L t told InstructionMark (n + 1) refl ∙ (let g : n + 1 + 1 ≡ m = omega arith in λ i. Some (reading Text L (g i) t told)) in
+    record {
+      first = λ m e _. on_in L t told Instruction InstructionMark n 63 (62 ∷ []) _ refl (out m e);
+      second = λ m e _. on_in L t told InstructionMark InstructionMark n 63 (62 ∷ []) _ refl (out m e);
+    }
+skips_mark L t told (b ∷ bs) n = by (skips_mark L t told bs (n + 1)) (b == 63) refl (b == 62) refl
   where
-    by : SkipsMark L bs rest → (c : Bool) → (b == 63) ≡ c → (d : Bool) → (b == 62) ≡ d → SkipsMark L (b ∷ bs) rest
+    less : (m : ℕ) → m ≡ n + length (b ∷ bs) + 2 → m ≡ n + 1 + length bs + 2
+    less m e = omega arith
+
+    by : SkipsMark L t told bs (n + 1) → (c : Bool) → (b == 63) ≡ c → (d : Bool) → (b == 62) ≡ d → SkipsMark L t told (b ∷ bs) n
     by s true e d f =
         let same = eqb-true b 63 e in
         record {
-          first = λ up. step (scan (In Instruction) L) b (scan (In InstructionMark) L) (bs ++ (codes "?>" ++ rest)) (if_true (b == 63) _ _ e) ∙ s.second (ap (λ y. is_up_to (codes "?>") (y ∷ bs)) (sym same) ∙ up);
-          second = λ up.
-              step (scan (In InstructionMark) L) b (scan (In InstructionMark) L) (bs ++ (codes "?>" ++ rest)) (if_false (b == 62) _ _ (ap (λ y. y == 62) same) ∙ if_true (b == 63) _ _ e)
-              ∙ s.second (ap (λ y. is_up_to (codes "?>") (y ∷ bs)) (sym same) ∙ (both _ _ up).1);
+          first = λ m g up. on_in L t told Instruction InstructionMark n b (bs ++ codes "?>") _ (if_true (b == 63) _ _ e) (s.second m (less m g) (ap (λ y. is_up_to (codes "?>") (y ∷ bs)) (sym same) ∙ up));
+          second = λ m g up.
+              on_in L t told InstructionMark InstructionMark n b (bs ++ codes "?>") _ (if_false (b == 62) _ _ (ap (λ y. y == 62) same) ∙ if_true (b == 63) _ _ e)
+              (s.second m (less m g) (ap (λ y. is_up_to (codes "?>") (y ∷ bs)) (sym same) ∙ (both _ _ up).1));
         }
     by s false e d f = record {
-      first = λ up.
-          step (scan (In Instruction) L) b (scan (In Instruction) L) (bs ++ (codes "?>" ++ rest)) (if_false (b == 63) _ _ e ∙ if_true (is_free b) _ _ (both _ _ (both _ _ up).0).1)
-          ∙ s.first (both _ _ up).1;
-      second = λ up.
+      first = λ m g up.
+          on_in L t told Instruction Instruction n b (bs ++ codes "?>") _ (if_false (b == 63) _ _ e ∙ if_true (is_free b) _ _ (both _ _ (both _ _ up).0).1) (s.first m (less m g) (both _ _ up).1);
+      second = λ m g up.
           let inner = (both _ _ up).1 in
-          step (scan (In InstructionMark) L) b (scan (In Instruction) L) (bs ++ (codes "?>" ++ rest))
-          (if_false (b == 62) _ _ (other up d f) ∙ if_false (b == 63) _ _ e ∙ if_true (is_free b) _ _ (both _ _ (both _ _ inner).0).1) ∙ s.first (both _ _ inner).1;
+          on_in L t told InstructionMark Instruction n b (bs ++ codes "?>") _ (if_false (b == 62) _ _ (other up d f) ∙ if_false (b == 63) _ _ e ∙ if_true (is_free b) _ _ (both _ _ (both _ _ inner).0).1)
+          (s.first m (less m g) (both _ _ inner).1);
     }
       where
         other : is_up_to (codes "?>") (63 ∷ b ∷ bs) ≡ true → (d : Bool) → (b == 62) ≡ d → (b == 62) ≡ false
@@ -125,5 +148,5 @@ skips_mark L (b ∷ bs) rest = by (skips_mark L bs rest) (b == 63) refl (b == 62
             let there : bytes_eq (take 2 (63 ∷ b ∷ bs ++ codes "?>")) (codes "?>") ≡ true = ap (λ u. u && bytes_eq (take 0 (bs ++ codes "?>")) []) f in
             absurd (clash _ there (flip_true _ (both _ _ (both _ _ up).0).0))
 
-pub instruction_run : (L : Level) (bytes rest : List ℕ) → is_up_to (codes "?>") bytes ≡ true → from Text L (codes "<?" ++ (bytes ++ (codes "?>" ++ rest))) ≡ from Text L rest
-instruction_run L bytes rest up = (skips_mark L bytes rest).first up
+pub instruction_read : (L : Level) (t : Tokens) (told : List Event) (bytes : List ℕ) (n m : ℕ) → m ≡ n + length bytes + 2 → is_up_to (codes "?>") bytes ≡ true → reads (Some (reading (In Instruction) L n t told)) (bytes ++ codes "?>") ≡ Some (reading Text L m t told)
+instruction_read L t told bytes n m e up = (skips_mark L t told bytes n).first m e up

@@ -1,29 +1,8 @@
 -- The elements of a tree, in document order, each with its place and with what its path makes of it.
 use Rattle.std.specs.Prelude.{ℕ, ◌+◌, ◌-◌, List, [], ◌∷◌, ◌++◌, length, codes, bytes_eq, if◌then◌else◌, Option, Some, None}
+use Rattle.landxml_read.specs.declared.kind.Kind.{Kind}
+use Rattle.landxml_read.specs.declared.kind.Kind.TheVariants.{Outside, Root, Units, UnitOf, Surfaces, Surface, SourceData, Boundaries, Boundary, Breaklines, Breakline, DataPoints, Triples, Pairs, Definition, Points, Point, Faces, Face, Skipped}
 use Rattle.landxml_read.specs.Markup.{StartTag, EndTag, Content, Nothing, Byte, Comment, Instruction, CData, Empty, Element, content_text, start_text, empty_text, end_text}
-
--- what a path is read as
-pub data Kind : Type 0 where
-  Outside : Kind
-  Root : Kind
-  Units : Kind
-  UnitOf : Kind
-  Surfaces : Kind
-  Surface : Kind
-  SourceData : Kind
-  Boundaries : Kind
-  Boundary : Kind
-  Breaklines : Kind
-  Breakline : Kind
-  DataPoints : Kind
-  Triples : Kind
-  Pairs : Kind
-  Definition : Kind
-  Points : Kind
-  Point : Kind
-  Faces : Kind
-  Face : Kind
-  Skipped : Kind
 
 -- the kind of the first row of this name, or skipped
 abbrev pub among : List (List ℕ × Kind) → List ℕ → Kind

@@ -4,7 +4,9 @@ use Rattle.std.specs.List.{list_any}
 use Rattle.landxml_read.specs.declared.fault.DocCause.{DocCause}
 use Rattle.landxml_read.specs.declared.fault.DocCause.TheVariants as cause
 use Rattle.landxml_read.specs.Markup.{Attribute, EndTag, Document, mark}
-use Rattle.landxml_read.specs.Elements.{Kind, Outside, UnitOf, Surface, Boundary, Breakline, Triples, Pairs, Definition, Point, Face, Found, elements}
+use Rattle.landxml_read.specs.declared.kind.Kind.{Kind}
+use Rattle.landxml_read.specs.declared.kind.Kind.TheVariants.{Outside, UnitOf, Surface, Boundary, Breakline, Triples, Pairs, Definition, Point, Face}
+use Rattle.landxml_read.specs.Elements.{Found, elements}
 use Rattle.landxml_read.specs.Values.{decoded}
 use Rattle.landxml_read.specs.Words.{Word, Placed, parts, words, word_end, is_ampersand, is_quoted}
 use Rattle.landxml_read.specs.Numbers.{decimal_of, is_over}

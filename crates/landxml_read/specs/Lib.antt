@@ -9,3 +9,8 @@ pub mod Answer
 pub mod Scan
 pub mod Utf8
 pub mod Outline
+pub mod Events
+pub mod Tokens
+pub mod Decoding
+pub mod Verdict
+pub mod Reader

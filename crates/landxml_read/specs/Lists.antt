@@ -10,7 +10,9 @@ use Rattle.landxml_read.specs.declared.raw.RawKind.TheVariants as kind
 use Rattle.landxml_read.specs.declared.raw.RawVertex.{RawVertex}
 use Rattle.landxml_read.specs.declared.raw.RawVertex.TheVariants as vertex
 use Rattle.landxml_read.specs.Markup.{Document}
-use Rattle.landxml_read.specs.Elements.{Kind, UnitOf, Surface, Boundary, Breakline, Triples, Pairs, Point, Face, Found, elements}
+use Rattle.landxml_read.specs.declared.kind.Kind.{Kind}
+use Rattle.landxml_read.specs.declared.kind.Kind.TheVariants.{UnitOf, Surface, Boundary, Breakline, Triples, Pairs, Point, Face}
+use Rattle.landxml_read.specs.Elements.{Found, elements}
 use Rattle.landxml_read.specs.Words.{Word, words}
 use Rattle.landxml_read.specs.Numbers.{decimal_of, value_or_zero}
 use Rattle.landxml_read.specs.Faults.{value_of, parts_of, document_elements}

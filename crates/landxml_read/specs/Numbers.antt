@@ -1,6 +1,8 @@
 -- The number that a word spells.
-use Rattle.std.specs.Prelude.{ℕ, Bool, false, ◌==◌, ◌&&◌, ◌||◌, not, List, [], ◌∷◌, ◌++◌, length, Option, Some, None, option_map, if◌then◌else◌, nat_lt, ℤ, pos}
+use Rattle.std.specs.Prelude.{ℕ, Bool, false, ◌==◌, ◌&&◌, ◌||◌, not, List, [], ◌∷◌, ◌++◌, length, Option, Some, None, option_map, is_none, if◌then◌else◌, nat_lt, ℤ, pos}
 use Rattle.std.specs.List.{list_all}
+use Rattle.landxml_read.specs.declared.fault.DocCause.{DocCause}
+use Rattle.landxml_read.specs.declared.fault.DocCause.TheVariants as cause
 use Rattle.ground_num.specs.Spelling.{Sign, Bare, Plus, Minus, Exponent, Decimal, magnitude, thousandths, number_limit}
 use Rattle.ground_num.specs.Reading.{is_digit}
 use Rattle.ground_num.specs.Parts.{after_sign, leading_digits, after_digits, pointed_digits, after_point}
@@ -35,6 +37,10 @@ decimal_of text =
 abbrev pub is_over : Option Decimal → Bool
 is_over None = false
 is_over (Some d) = nat_lt number_limit (magnitude d)
+
+-- why a word is no number of a document
+abbrev pub number_cause : List ℕ → Option DocCause
+number_cause text = if is_none (decimal_of text) then Some cause.Number else (if is_over (decimal_of text) then Some cause.Big else None)
 
 -- the thousandths of a decimal, where it is one
 abbrev pub value_or_zero : Option Decimal → ℤ

@@ -38,24 +38,26 @@ pub record Word : Type 0 where
   pub at : ℕ
   pub text : List ℕ
 
+-- a byte of a word before the bytes of words at the front, or none
+abbrev pub run_of : Option ℕ → List ℕ → List ℕ
+run_of None rest = []
+run_of (Some b) rest = b ∷ rest
+
 -- the bytes of words at the front
 abbrev pub run : List Placed → List ℕ
 run [] = []
 run (p ∷ ps) = run_of (of_word p.part) (run ps)
-  where
-    run_of : Option ℕ → List ℕ → List ℕ
-    run_of None rest = []
-    run_of (Some b) rest = b ∷ rest
+
+-- the words where a part stands first: with those after it, inside a word or not, and the bytes of words right after it
+abbrev pub words_of : Bool → Option ℕ → List ℕ → List Word → List Word → ℕ → List Word
+words_of in_word None rest after within at = after
+words_of true (Some b) rest after within at = within
+words_of false (Some b) rest after within at = record { at = at; text = b ∷ rest } ∷ within
 
 -- a word begins at a byte of a word that has no such byte before it
 abbrev pub words_after : Bool → List Placed → List Word
 words_after in_word [] = []
 words_after in_word (p ∷ ps) = words_of in_word (of_word p.part) (run ps) (words_after false ps) (words_after true ps) p.at
-  where
-    words_of : Bool → Option ℕ → List ℕ → List Word → List Word → ℕ → List Word
-    words_of in_word None rest after within at = after
-    words_of true (Some b) rest after within at = within
-    words_of false (Some b) rest after within at = record { at = at; text = b ∷ rest } ∷ within
 
 -- the words of some parts
 abbrev pub words : List Placed → List Word

@@ -54,3 +54,11 @@ pub struct DocFault {
     pub at: u64,
     pub cause: DocCause,
 }
+
+/// Why a reader gives up.
+#[derive(Clone, Copy, Debug, PartialEq, Eq)]
+pub enum ReadFault {
+    Doc(DocFault),
+    /// Out of memory.
+    Memory,
+}

@@ -6,7 +6,8 @@ ghost use Rattle.landxml_read.specs.Utf8.{is_ready};
 ghost use Rattle.landxml_read.specs.Outline.{StandsAt, IsShownAt, IsStrayFault};
 
 use crate::fault::{DocCause, DocFault};
-use crate::scan::{Level, Part, Scan};
+use crate::level::Level;
+use crate::scan::{Part, Scan};
 use crate::standing::Standing;
 use crate::utf8::Utf8;
 

@@ -4,19 +4,9 @@ ghost use Rattle.std.specs.Prelude.{◌≡◌, ◌<◌, ◌^◌, ◌+◌, IsTrue
 ghost use Rattle.landxml_read.specs.Scan.{IsShallow, opened, passed, closed, is_inside, is_unclosed, at, only, text_next, open_next, bang_next, skipping, skipped_next, tag_end, white_or_end, before_quote, value_next, tag_next, end_next, part_next, next, is_final};
 
 use crate::byte::{is_free_byte, is_white_byte, may_be_in_name, may_be_in_value, may_begin_name};
+use crate::level::Level;
 use crate::skipped::Skipped;
 use crate::tag::TagPart;
-
-/// How far the document's root element is.
-#[derive(Clone, Copy, Debug, PartialEq, Eq)]
-pub(crate) enum Level {
-    /// It hasn't begun.
-    Before,
-    /// It is open, and in it so many elements, one inside the other.
-    Inside(u32),
-    /// It is closed.
-    After,
-}
 
 /// The part of a document in which the scan stands.
 #[derive(Clone, Copy, Debug, PartialEq, Eq)]
@@ -62,52 +52,6 @@ pub(crate) struct Scan {
 }
 
 impl Level {
-    // After a start tag.
-    fn opened(self) -> Level
-        requires { IsShallow self }
-        ensures { result ≡ opened self }
-    {
-        match self {
-            Level::Inside(k) => Level::Inside(k + 1),
-            Level::Before | Level::After => Level::Inside(0),
-        }
-    }
-
-    // After an empty element.
-    fn passed(self) -> Level
-        ensures { result ≡ passed self }
-    {
-        match self {
-            Level::Inside(k) => Level::Inside(k),
-            Level::Before | Level::After => Level::After,
-        }
-    }
-
-    // After an end tag.
-    fn closed(self) -> Level
-        ensures { result ≡ closed self }
-    {
-        match self {
-            Level::Inside(0) => Level::After,
-            Level::Inside(k) => Level::Inside(k - 1),
-            Level::Before | Level::After => Level::After,
-        }
-    }
-
-    // Whether an element is open.
-    fn is_inside(self) -> bool
-        ensures { result ≡ is_inside self }
-    {
-        matches!(self, Level::Inside(_))
-    }
-
-    // Whether an element may begin.
-    fn is_unclosed(self) -> bool
-        ensures { result ≡ is_unclosed self }
-    {
-        !matches!(self, Level::After)
-    }
-
     // The scan in a part at this level.
     fn at(self, part: Part) -> Option<Scan>
         ensures { result ≡ at self part }
