@@ -1,19 +1,21 @@
 -- Each status by its number.
-use Rattle.std.proofs.Common.{◌≡◌, ℕ, zero, suc, refl, sym, ap, ◌∙◌}
+use Rattle.std.proofs.Common.{◌≡◌, ℕ, refl, sym, ap, ◌∙◌}
+use Rattle.std.specs.Prelude.{nat_eq, if◌then◌else◌}
 use Rattle.terrain_main.specs.declared.status.Status.{Status}
 use Rattle.terrain_main.specs.declared.status.Status.TheVariants.{Ok, Usage, ReadFault, WriteFault, Memory, Spent, LongLine, Cut}
 use Rattle.terrain_main.specs.Commands.{code_of}
 
 -- the status of a number that is one's
-status_of : ℕ → Status
-status_of 2 = Usage
-status_of 4 = ReadFault
-status_of 5 = WriteFault
-status_of 6 = Memory
-status_of 10 = Spent
-status_of 11 = LongLine
-status_of 12 = Cut
-status_of n = Ok
+abbrev status_of : ℕ → Status
+status_of n =
+    if nat_eq n 2 then Usage
+    else if nat_eq n 4 then ReadFault
+    else if nat_eq n 5 then WriteFault
+    else if nat_eq n 6 then Memory
+    else if nat_eq n 10 then Spent
+    else if nat_eq n 11 then LongLine
+    else if nat_eq n 12 then Cut
+    else Ok
 
 told_apart : (s : Status) → status_of (code_of s) ≡ s
 told_apart Ok = refl
