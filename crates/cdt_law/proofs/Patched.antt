@@ -1,13 +1,13 @@
 -- Planned triangles put into a newer sheet make a locally Delaunay sheet.
-use Rattle.std.proofs.Common.{◌≡◌, ℕ, ◌+◌, ◌<◌, ◌≤◌, ◌⊎◌, inl, inr, sym, ap, subst, ◌∙◌, arith, List, [], ◌++◌, Bool, true, false, flat_map}
-use Rattle.std.specs.Prelude.{ℤ, pos, ◌+ℤ◌, ◌≤ℤ◌, cond}
+use Rattle.std.proofs.Common.{◌≡◌, ℕ, ◌+◌, ◌⊎◌, inl, inr, sym, ap, subst, ◌∙◌, arith, List, [], ◌++◌, Bool, true, false, flat_map}
+use Rattle.std.specs.Prelude.{ℤ, pos, ◌+ℤ◌, ◌<ℤ◌, ◌≤ℤ◌, int_lt, cond, Some, slice_get}
 use Rattle.std.specs.List.{list_all, list_any}
 use Rattle.std.proofs.lemmas.Int.{ints}
-use Rattle.std.proofs.lemmas.Bool.{and_parts, and_from, or_cases, or_left, or_right}
+use Rattle.std.proofs.lemmas.Bool.{and_parts, and_from, or_cases, or_right}
 use Rattle.std.proofs.lemmas.List.Sums.{sum_by-append}
 use Rattle.std.proofs.lemmas.List.Folds.{list_any-append, list_all-append}
 use Rattle.ground_model.specs.declared.corner.Corner.{Corner}
-use Rattle.ground_model.specs.Corner.{is_corner_inside}
+use Rattle.ground_model.specs.Corner.{corner_side, is_corner_inside}
 use Rattle.predicates.specs.Sums.{total}
 use Rattle.predicates.specs.HalfOpen.{indicate}
 use Rattle.predicates.specs.Net.{Net, Triangle, Edge, edges_of, edges_in, is_same_edge, is_triangle, is_turned, reversed, times_in, rim, has, count_of}
@@ -16,11 +16,12 @@ use Rattle.predicates.proofs.Sums.{total-append, total-flat_map}
 use Rattle.predicates.proofs.Edges.{counted}
 use Rattle.predicates.proofs.Heights.{lift, deep}
 use Rattle.predicates.proofs.InsideDepths.{outside-shallow, shallow-outside}
-use Rattle.predicates.proofs.Owners.{owner, owner-times}
-use Rattle.predicates.proofs.HasTriangles.{any-found, turn-of, owner-has}
-use Rattle.predicates.proofs.OneOwner.{one_on_edge}
+use Rattle.predicates.proofs.Owners.{Still, turn-side}
+use Rattle.predicates.proofs.Tiling.{left-of}
+use Rattle.predicates.proofs.Holding.{passes-each}
+use Rattle.predicates.proofs.HasTriangles.{HasOwner, has-owner, owner-has}
 use Rattle.predicates.proofs.ClosedLaw.{closed_law}
-use Rattle.cdt_law.specs.Patch.{is_in, IsPatch, PatchLaw}
+use Rattle.cdt_law.specs.Patch.{is_in, times_among, IsPatch, PatchLaw}
 use Rattle.cdt_law.proofs.FacetLaws.{net_law}
 use Rattle.cdt_law.proofs.FlipLaws.{depth-exchanged, count-back}
 
@@ -31,9 +32,6 @@ all-both p xs ys e f = list_all-append p xs ys ∙ and_from (list_all p xs) (lis
 all-each : {X : Type 0} (p : X → Bool) (xs ys : List X) → list_all p (xs ++ ys) ≡ true → (list_all p xs ≡ true) × (list_all p ys ≡ true)
 all-each p xs ys e = and_parts (list_all p xs) (list_all p ys) (sym (list_all-append p xs ys) ∙ e)
 
-any-first : {X : Type 0} (p : X → Bool) (xs ys : List X) → list_any p xs ≡ true → list_any p (xs ++ ys) ≡ true
-any-first p xs ys e = list_any-append p xs ys ∙ or_left (list_any p xs) (list_any p ys) e
-
 any-second : {X : Type 0} (p : X → Bool) (xs ys : List X) → list_any p ys ≡ true → list_any p (xs ++ ys) ≡ true
 any-second p xs ys e = list_any-append p xs ys ∙ or_right (list_any p xs) (list_any p ys) e
 
@@ -41,96 +39,57 @@ any-either : {X : Type 0} (p : X → Bool) (xs ys : List X) → list_any p (xs +
 any-either p xs ys e = or_cases (list_any p xs) (list_any p ys) (sym (list_any-append p xs ys) ∙ e)
 
 -- ---- how often an edge occurs in a list of triangles
-abbrev often : List Triangle → Edge → ℕ
-often ts e = times_in (flat_map edges_of ts) e
+pub among-total : (ts : List Triangle) (e : Edge) → pos (times_among ts e) ≡ total (λ t. total (λ y. indicate (is_same_edge e y)) (edges_of t)) ts
+among-total ts e = counted (is_same_edge e) (flat_map edges_of ts) ∙ total-flat_map (λ y. indicate (is_same_edge e y)) edges_of ts
 
-often-total : (ts : List Triangle) (e : Edge) → pos (often ts e) ≡ total (λ t. total (λ y. indicate (is_same_edge e y)) (edges_of t)) ts
-often-total ts e = counted (is_same_edge e) (flat_map edges_of ts) ∙ total-flat_map (λ y. indicate (is_same_edge e y)) edges_of ts
-
-often-append : (xs ys : List Triangle) (e : Edge) → often (xs ++ ys) e ≡ often xs e + often ys e
-often-append xs ys e =
-    sum (often (xs ++ ys) e) (often xs e) (often ys e) (total (λ t. total (λ y. indicate (is_same_edge e y)) (edges_of t)) (xs ++ ys)) (total (λ t. total (λ y. indicate (is_same_edge e y)) (edges_of t)) xs) (total (λ t. total (λ y. indicate (is_same_edge e y)) (edges_of t)) ys)
-    (often-total (xs ++ ys) e) (often-total xs e) (often-total ys e) (total-append (λ t. total (λ y. indicate (is_same_edge e y)) (edges_of t)) xs ys)
+pub among-append : (xs ys : List Triangle) (e : Edge) → times_among (xs ++ ys) e ≡ times_among xs e + times_among ys e
+among-append xs ys e =
+    sum (times_among (xs ++ ys) e) (times_among xs e) (times_among ys e) (total (λ t. total (λ y. indicate (is_same_edge e y)) (edges_of t)) (xs ++ ys)) (total (λ t. total (λ y. indicate (is_same_edge e y)) (edges_of t)) xs) (total (λ t. total (λ y. indicate (is_same_edge e y)) (edges_of t)) ys)
+    (among-total (xs ++ ys) e) (among-total xs e) (among-total ys e) (total-append (λ t. total (λ y. indicate (is_same_edge e y)) (edges_of t)) xs ys)
   where
     sum : (n m k : ℕ) (s t u : ℤ) → pos n ≡ s → pos m ≡ t → pos k ≡ u → s ≡ t +ℤ u → n ≡ m + k
     sum n m k s t u e f g h = omega (arith, ints, e, f, g, h)
 
 -- in a net of two lists, with the rim
-rimmed-often : (net : Net) (xs ys : List Triangle) → net.triangles ≡ xs ++ ys → (e : Edge) → times_in (rimmed net) e ≡ often xs e + often ys e + times_in rim e
-rimmed-often net xs ys is e =
-    sum_by-append (λ y. cond (is_same_edge e y) 1 0) (edges_in net) rim ∙ ap (λ n. n + times_in rim e) (ap (λ ts. often ts e) is ∙ often-append xs ys e)
-
--- a triangle of the list has its edge
-often-some : (ts : List Triangle) (a b c : Corner) → is_in ts a b c ≡ true → 0 < often ts (a, b)
-often-some ts a b c e =
-    let f = any-found (is_triangle a b c) ts e in
-    owner-times ts f.item f.index a b c f.at (turn-of a b c f.item f.passes)
-
-record InList (ts : List Triangle) (a b : Corner) : Type 0 where
-  third : Corner
-  there : is_in ts a b third ≡ true
-
-in-list : (ts : List Triangle) (a b : Corner) → 0 < often ts (a, b) → InList ts a b
-in-list ts a b some =
-    let o = owner (record { points = []; count = λ p q. 0; triangles = ts }) a b some in
-    record { third = o.third; there = owner-has (record { points = []; count = λ p q. 0; triangles = ts }) a b o }
+rimmed-among : (net : Net) (xs ys : List Triangle) → net.triangles ≡ xs ++ ys → (e : Edge) → times_in (rimmed net) e ≡ times_among xs e + times_among ys e + times_in rim e
+rimmed-among net xs ys is e =
+    sum_by-append (λ y. cond (is_same_edge e y) 1 0) (edges_in net) rim ∙ ap (λ n. n + times_in rim e) (ap (λ ts. times_among ts e) is ∙ among-append xs ys e)
 
 -- ---- after is a sheet
-after-closed : (base planned newest after : Net) → IsSheet base → IsSheet planned → IsSheet newest → IsPatch base planned newest after → IsClosed after
-after-closed base planned newest after b p n x = record {
+-- the made triangles are counterclockwise, as they are in the planned net
+made-turned : (planned : Net) → IsSheet planned → (made : List Triangle) → ((a b c : Corner) → is_in made a b c ≡ true → has planned a b c ≡ true) → list_all is_turned made ≡ true
+made-turned planned sheet made made_in = passes-each is_turned made (λ k t at. left (corner_side t.a t.b t.c)
+    (turned (has-owner planned t.a t.b t.c (made_in t.a t.b t.c (listed k t at)))))
+  where
+    left : (s : ℤ) → pos 0 <ℤ s → int_lt (pos 0) s ≡ true
+    left s h = let e : true ≡ int_lt (pos 0) s = omega (arith, ints, h) in sym e
+
+    listed : (k : ℕ) (t : Triangle) → slice_get made k ≡ Some t → is_in made t.a t.b t.c ≡ true
+    listed k t at = owner-has (record { points = []; count = λ p q. 0; triangles = made }) t.a t.b (record { index = k; triangle = t; third = t.c; at = at; turn = Still })
+
+    turned : {a b c : Corner} → HasOwner planned a b c → pos 0 <ℤ corner_side a b c
+    turned {a} {b} {c} o = subst (λ (z : Corner). pos 0 <ℤ corner_side a b z) o.third (turn-side o.owner.triangle a b o.owner.third o.owner.turn (left-of planned sheet o.owner.index o.owner.triangle o.owner.at))
+
+after-closed : (planned newest after : Net) → IsSheet planned → IsSheet newest → IsPatch planned newest after → IsClosed after
+after-closed planned newest after p n x = record {
   places = x.places;
   over = x.over;
   turned = ap (list_all is_turned) x.after_is ∙ all-both is_turned x.made x.others
-      (all-each is_turned x.made x.kept (sym (ap (list_all is_turned) x.planned_is) ∙ p.turned)).0
+      (made-turned planned p x.made x.made_in)
       (all-each is_turned x.destroyed x.others (sym (ap (list_all is_turned) x.newest_is) ∙ n.turned)).1;
-  matched = λ e. sum (often x.destroyed e) (often x.made e) (often x.kept e) (often x.others e) (times_in rim e)
-      (often x.destroyed (reversed e)) (often x.made (reversed e)) (often x.kept (reversed e)) (often x.others (reversed e)) (times_in rim (reversed e))
-      (times_in (rimmed base) e) (times_in (rimmed planned) e) (times_in (rimmed newest) e) (times_in (rimmed after) e)
-      (times_in (rimmed base) (reversed e)) (times_in (rimmed planned) (reversed e)) (times_in (rimmed newest) (reversed e)) (times_in (rimmed after) (reversed e))
-      (rimmed-often base x.destroyed x.kept x.base_is e) (rimmed-often planned x.made x.kept x.planned_is e) (rimmed-often newest x.destroyed x.others x.newest_is e) (rimmed-often after x.made x.others x.after_is e)
-      (rimmed-often base x.destroyed x.kept x.base_is (reversed e)) (rimmed-often planned x.made x.kept x.planned_is (reversed e)) (rimmed-often newest x.destroyed x.others x.newest_is (reversed e)) (rimmed-often after x.made x.others x.after_is (reversed e))
-      (b.matched e) (p.matched e) (n.matched e);
+  matched = λ e. sum (times_among x.destroyed e) (times_among x.made e) (times_among x.others e) (times_in rim e)
+      (times_among x.destroyed (reversed e)) (times_among x.made (reversed e)) (times_among x.others (reversed e)) (times_in rim (reversed e))
+      (times_in (rimmed newest) e) (times_in (rimmed after) e) (times_in (rimmed newest) (reversed e)) (times_in (rimmed after) (reversed e))
+      (rimmed-among newest x.destroyed x.others x.newest_is e) (rimmed-among after x.made x.others x.after_is e)
+      (rimmed-among newest x.destroyed x.others x.newest_is (reversed e)) (rimmed-among after x.made x.others x.after_is (reversed e))
+      (n.matched e) (x.boundary e);
 }
   where
-    sum : (d m k o r d' m' k' o' r' s0 s1 s2 s3 t0 t1 t2 t3 : ℕ) → s0 ≡ d + k + r → s1 ≡ m + k + r → s2 ≡ d + o + r → s3 ≡ m + o + r
-        → t0 ≡ d' + k' + r' → t1 ≡ m' + k' + r' → t2 ≡ d' + o' + r' → t3 ≡ m' + o' + r' → s0 ≡ t0 → s1 ≡ t1 → s2 ≡ t2 → s3 ≡ t3
-    sum d m k o r d' m' k' o' r' s0 s1 s2 s3 t0 t1 t2 t3 e0 e1 e2 e3 f0 f1 f2 f3 g0 g1 g2 = omega (arith, e0, e1, e2, e3, f0, f1, f2, f3, g0, g1, g2)
+    sum : (d m o r d' m' o' r' s0 s1 t0 t1 : ℕ) → s0 ≡ d + o + r → s1 ≡ m + o + r → t0 ≡ d' + o' + r' → t1 ≡ m' + o' + r' → s0 ≡ t0 → d + m' ≡ m + d' → s1 ≡ t1
+    sum d m o r d' m' o' r' s0 s1 t0 t1 e0 e1 f0 f1 g h = omega (arith, e0, e1, f0, f1, g, h)
 
-after-sheet : (base planned newest after : Net) → IsSheet base → IsSheet planned → IsSheet newest → IsPatch base planned newest after → IsSheet after
-after-sheet base planned newest after b p n x = closed_law after (after-closed base planned newest after b p n x) x.spanned
-
--- ---- where a made triangle meets another, that one was kept
-kept-beside : (base planned newest after : Net) → IsSheet base → IsSheet planned → IsSheet newest → (x : IsPatch base planned newest after) → IsSheet after
-    → (a b c d : Corner) → is_in x.made a b c ≡ true → is_in x.others b a d ≡ true → has planned b a d ≡ true
-kept-beside base planned newest after b_sheet p n x s a b c d in_made in_others =
-    ap (λ ts. list_any (is_triangle b a d) ts) x.planned_is ∙ any-second (is_triangle b a d) x.made x.kept (subst (λ (z : Corner). is_in x.kept b a z ≡ true) same k.there)
-  where
-    counts : (d m k o r d' m' k' o' r' s0 s1 s2 s3 t0 t1 t2 t3 : ℕ) → s0 ≡ d + k + r → s1 ≡ m + k + r → s3 ≡ m + o + r → t0 ≡ d' + k' + r' → t1 ≡ m' + k' + r' → t2 ≡ d' + o' + r' → t3 ≡ m' + o' + r'
-        → s0 ≡ t0 → s1 ≡ t1 → s3 ≤ 1 → t2 ≤ 1 → t3 ≤ 1 → 0 < m → 0 < o' → (0 < k') × (0 < d)
-    counts d m k o r d' m' k' o' r' s0 s1 s2 s3 t0 t1 t2 t3 e0 e1 e3 f0 f1 f2 f3 g0 g1 l3 l2 l4 hm ho =
-        (omega (arith, e0, e1, e3, f0, f1, f2, f3, g0, g1, l3, l2, l4, hm, ho), omega (arith, e0, e1, e3, f0, f1, f2, f3, g0, g1, l3, l2, l4, hm, ho))
-
-    both : (0 < often x.kept (b, a)) × (0 < often x.destroyed (a, b))
-    both = counts (often x.destroyed (a, b)) (often x.made (a, b)) (often x.kept (a, b)) (often x.others (a, b)) (times_in rim (a, b))
-        (often x.destroyed (b, a)) (often x.made (b, a)) (often x.kept (b, a)) (often x.others (b, a)) (times_in rim (b, a))
-        (times_in (rimmed base) (a, b)) (times_in (rimmed planned) (a, b)) 0 (times_in (rimmed after) (a, b))
-        (times_in (rimmed base) (b, a)) (times_in (rimmed planned) (b, a)) (times_in (rimmed newest) (b, a)) (times_in (rimmed after) (b, a))
-        (rimmed-often base x.destroyed x.kept x.base_is (a, b)) (rimmed-often planned x.made x.kept x.planned_is (a, b)) (rimmed-often after x.made x.others x.after_is (a, b))
-        (rimmed-often base x.destroyed x.kept x.base_is (b, a)) (rimmed-often planned x.made x.kept x.planned_is (b, a)) (rimmed-often newest x.destroyed x.others x.newest_is (b, a)) (rimmed-often after x.made x.others x.after_is (b, a))
-        (b_sheet.matched (a, b)) (p.matched (a, b)) (s.once (a, b)) (n.once (b, a)) (s.once (b, a))
-        (often-some x.made a b c in_made) (often-some x.others b a d in_others)
-
-    k : InList x.kept b a
-    k = in-list x.kept b a both.0
-
-    gone : InList x.destroyed a b
-    gone = in-list x.destroyed a b both.1
-
-    in_newest : (z : Corner) → is_in x.others b a z ≡ true → has newest b a z ≡ true
-    in_newest z h = ap (λ ts. list_any (is_triangle b a z) ts) x.newest_is ∙ any-second (is_triangle b a z) x.destroyed x.others h
-
-    same : k.third ≡ d
-    same = one_on_edge newest n b a k.third d (in_newest k.third (x.beside a b gone.third k.third gone.there k.there)) (in_newest d in_others)
+after-sheet : (planned newest after : Net) → IsSheet planned → IsSheet newest → IsPatch planned newest after → IsSheet after
+after-sheet planned newest after p n x = closed_law after (after-closed planned newest after p n x) x.spanned
 
 -- ---- after is locally Delaunay
 exchanged : (a b c d : Corner) → is_corner_inside b a d c ≡ false → is_corner_inside a b c d ≡ false
@@ -139,13 +98,10 @@ exchanged a b c d e = shallow-outside a b c d (along (deep a b c d) (deep b a d 
     along : (x y : ℤ) → x ≡ y → y ≤ℤ pos 0 → x ≤ℤ pos 0
     along x y e h = omega (arith, ints, e, h)
 
-after-local : (base planned newest after : Net) → IsSheet base → IsSheet planned → IsLocallyDelaunay planned → IsSheet newest → IsLocallyDelaunay newest → (x : IsPatch base planned newest after) → IsSheet after → IsLocallyDelaunay after
-after-local base planned newest after b_sheet p local_p n local_n x s a b c d at_abc at_bad free =
+after-local : (planned newest after : Net) → IsLocallyDelaunay planned → IsLocallyDelaunay newest → (x : IsPatch planned newest after) → IsSheet after → IsLocallyDelaunay after
+after-local planned newest after local_p local_n x s a b c d at_abc at_bad free =
     by (any-either (is_triangle a b c) x.made x.others (sym (ap (λ ts. list_any (is_triangle a b c) ts) x.after_is) ∙ at_abc)) (any-either (is_triangle b a d) x.made x.others (sym (ap (λ ts. list_any (is_triangle b a d) ts) x.after_is) ∙ at_bad))
   where
-    in_planned : (u v w : Corner) → is_in x.made u v w ≡ true → has planned u v w ≡ true
-    in_planned u v w h = ap (λ ts. list_any (is_triangle u v w) ts) x.planned_is ∙ any-first (is_triangle u v w) x.made x.kept h
-
     in_newest : (u v w : Corner) → is_in x.others u v w ≡ true → has newest u v w ≡ true
     in_newest u v w h = ap (λ ts. list_any (is_triangle u v w) ts) x.newest_is ∙ any-second (is_triangle u v w) x.destroyed x.others h
 
@@ -153,13 +109,13 @@ after-local base planned newest after b_sheet p local_p n local_n x s a b c d at
     free_back = count-back after s a b free
 
     by : (is_in x.made a b c ≡ true) ⊎ (is_in x.others a b c ≡ true) → (is_in x.made b a d ≡ true) ⊎ (is_in x.others b a d ≡ true) → is_corner_inside a b c d ≡ false
-    by (inl m) (inl m') = local_p a b c d (in_planned a b c m) (in_planned b a d m') (x.made_counts a b c m ∙ free)
-    by (inl m) (inr o) = local_p a b c d (in_planned a b c m) (kept-beside base planned newest after b_sheet p n x s a b c d m o) (x.made_counts a b c m ∙ free)
-    by (inr o) (inl m) = exchanged a b c d (local_p b a d c (in_planned b a d m) (kept-beside base planned newest after b_sheet p n x s b a d c m o) (x.made_counts b a d m ∙ free_back))
+    by (inl m) (inl m') = local_p a b c d (x.made_in a b c m) (x.made_in b a d m') (x.made_counts a b c m ∙ free)
+    by (inl m) (inr o) = local_p a b c d (x.made_in a b c m) (x.beside a b c d m o) (x.made_counts a b c m ∙ free)
+    by (inr o) (inl m) = exchanged a b c d (local_p b a d c (x.made_in b a d m) (x.beside b a d c m o) (x.made_counts b a d m ∙ free_back))
     by (inr o) (inr o') = local_n a b c d (in_newest a b c o) (in_newest b a d o') (x.other_counts a b c o ∙ free)
 
 pub patch_law : PatchLaw
-patch_law base planned newest after b p local_p n local_n x =
-    let s = after-sheet base planned newest after b p n x in
-    let local = after-local base planned newest after b p local_p n local_n x s in
+patch_law planned newest after p local_p n local_n x =
+    let s = after-sheet planned newest after p n x in
+    let local = after-local planned newest after local_p local_n x s in
     (s, (local, net_law after s local))

@@ -74,8 +74,9 @@ pub fn fall_law()
     ensures { FallLaw }
 {}
 
-/// Planned triangles fit into a newer sheet that still has the triangles in whose place they stand, and those beside: the
-/// result is a locally Delaunay sheet, so its triangles of three places are the facets of its points and pieces.
+/// Triangles of a planned sheet fit into a newer one, in the place of triangles with the same boundary, where they have
+/// beside them what they have in the planned sheet: the result is a locally Delaunay sheet, so its triangles of three
+/// places are the facets of its points and pieces.
 pub fn patch_law()
     ensures { PatchLaw }
 {}
