@@ -32,6 +32,7 @@ pub mod FlipFalls
 pub mod IllegalEdge
 pub mod FlipLaws
 pub mod Patched
+pub mod Reordered
 -- the hull
 pub mod FarLarger
 pub mod Hull

@@ -57,8 +57,8 @@ rimmed-among net xs ys is e =
 
 -- ---- after is a sheet
 -- the made triangles are counterclockwise, as they are in the planned net
-made-turned : (planned : Net) → IsSheet planned → (made : List Triangle) → ((a b c : Corner) → is_in made a b c ≡ true → has planned a b c ≡ true) → list_all is_turned made ≡ true
-made-turned planned sheet made made_in = passes-each is_turned made (λ k t at. left (corner_side t.a t.b t.c)
+pub turned-within : (planned : Net) → IsSheet planned → (made : List Triangle) → ((a b c : Corner) → is_in made a b c ≡ true → has planned a b c ≡ true) → list_all is_turned made ≡ true
+turned-within planned sheet made made_in = passes-each is_turned made (λ k t at. left (corner_side t.a t.b t.c)
     (turned (has-owner planned t.a t.b t.c (made_in t.a t.b t.c (listed k t at)))))
   where
     left : (s : ℤ) → pos 0 <ℤ s → int_lt (pos 0) s ≡ true
@@ -75,7 +75,7 @@ after-closed planned newest after p n x = record {
   places = x.places;
   over = x.over;
   turned = ap (list_all is_turned) x.after_is ∙ all-both is_turned x.made x.others
-      (made-turned planned p x.made x.made_in)
+      (turned-within planned p x.made x.made_in)
       (all-each is_turned x.destroyed x.others (sym (ap (list_all is_turned) x.newest_is) ∙ n.turned)).1;
   matched = λ e. sum (times_among x.destroyed e) (times_among x.made e) (times_among x.others e) (times_in rim e)
       (times_among x.destroyed (reversed e)) (times_among x.made (reversed e)) (times_among x.others (reversed e)) (times_in rim (reversed e))

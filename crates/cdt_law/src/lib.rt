@@ -4,6 +4,7 @@
 
 ghost use Rattle.cdt_law.specs.Flips.{DestroyedLaw, EditLaw, FallLaw, FlipLaw, KeptLaw};
 ghost use Rattle.cdt_law.specs.Hull.{HullLaw};
+ghost use Rattle.cdt_law.specs.Order.{OrderLaw};
 ghost use Rattle.cdt_law.specs.Patch.{PatchLaw};
 ghost use Rattle.cdt_law.specs.Laws.{EdgeLaw, FacetLaw, FirstLaw, LocalLaw, NetLaw, OnceLaw, UniqueLaw};
 
@@ -72,6 +73,11 @@ pub fn kept_law()
 /// triangles, a natural number. So however such flips are chosen, they come to an end.
 pub fn fall_law()
     ensures { FallLaw }
+{}
+
+/// A sheet does not depend on the order of its triangles, nor on the corner with which each begins.
+pub fn order_law()
+    ensures { OrderLaw }
 {}
 
 /// Triangles of a planned sheet fit into a newer one, in the place of triangles with the same boundary, where they have
