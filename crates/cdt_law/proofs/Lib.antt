@@ -33,6 +33,13 @@ pub mod IllegalEdge
 pub mod FlipLaws
 pub mod Patched
 pub mod Reordered
+-- a point more or less
+pub mod ThinnerSites
+pub mod NearestPoint
+pub mod PiecesWithout
+pub mod LongerPieces
+pub mod CountsWithout
+pub mod PointLaw
 -- the hull
 pub mod FarLarger
 pub mod Hull

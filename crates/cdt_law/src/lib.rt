@@ -6,6 +6,7 @@ ghost use Rattle.cdt_law.specs.Flips.{DestroyedLaw, EditLaw, FallLaw, FlipLaw, K
 ghost use Rattle.cdt_law.specs.Hull.{HullLaw};
 ghost use Rattle.cdt_law.specs.Order.{OrderLaw};
 ghost use Rattle.cdt_law.specs.Patch.{PatchLaw};
+ghost use Rattle.cdt_law.specs.Point.{PointLaw};
 ghost use Rattle.cdt_law.specs.Laws.{EdgeLaw, FacetLaw, FirstLaw, LocalLaw, NetLaw, OnceLaw, UniqueLaw};
 
 /// The triangle of the far corners alone is a locally Delaunay sheet of no points: the laws below are about something.
@@ -91,4 +92,10 @@ pub fn patch_law()
 /// that is the highest of its corners.
 pub fn hull_law()
     ensures { HullLaw }
+{}
+
+/// A point that is added makes just the facets that have it as a corner, and one that no line has as a place is removed
+/// with just those: all others stay, with their counts.
+pub fn point_law()
+    ensures { PointLaw }
 {}
