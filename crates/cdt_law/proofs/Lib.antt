@@ -43,3 +43,6 @@ pub mod PointLaw
 -- the hull
 pub mod FarLarger
 pub mod Hull
+-- what two sheets have alone
+pub mod GoneFacets
+pub mod Boundary

@@ -184,7 +184,7 @@ facet-of net sheet local f e = by (kept-of (λ t. facet_by net t.a t.b t.c) (is_
         (same-facet f k.made k.passes ∙ o.is)
 
 -- a triangle's facet, where a, b, c is a turn of its corners with the least first
-turn-facet : (net : Net) (t : Triangle) (x y z : Corner) (a b c : Coords) → IsTurn t x y z → x ≡ At a → y ≡ At b → z ≡ At c → (is_before a b && is_before a c) ≡ true → facet_by net t.a t.b t.c ≡ Some (facet_on net a b c)
+pub turn-facet : (net : Net) (t : Triangle) (x y z : Corner) (a b c : Coords) → IsTurn t x y z → x ≡ At a → y ≡ At b → z ≡ At c → (is_before a b && is_before a c) ≡ true → facet_by net t.a t.b t.c ≡ Some (facet_on net a b c)
 turn-facet net t x y z a b c turn ea eb ec least = by t x y z turn ea eb ec
   where
     before : (is_before a b ≡ true) × (is_before a c ≡ true)

@@ -14,7 +14,11 @@ abbrev pub is_lower : Corner → ℕ → Bool
 is_lower (At p) k = true
 is_lower (Far j) k = nat_lt k j
 
--- in a locally Delaunay sheet no point lies to the left of the edge across from a triangle's far corner, where that is its highest
+-- no point of the other net lies to the left of the edge across from a far corner of a triangle of the net, where that is its highest
+abbrev pub Encloses : Net → Net → Type 0
+Encloses net other = (a b : Corner) (k : ℕ) → has net a b (Far k) ≡ true → is_lower a k ≡ true → is_lower b k ≡ true
+    → (p : Coords) → is_point other.points p ≡ true → is_left (corner_at a) (corner_at b) p ≡ false
+
+-- a locally Delaunay sheet encloses its own points
 abbrev pub HullLaw : Type 0
-HullLaw = (net : Net) → IsSheet net → IsLocallyDelaunay net → (a b : Corner) (k : ℕ) → has net a b (Far k) ≡ true → is_lower a k ≡ true → is_lower b k ≡ true
-    → (p : Coords) → is_point net.points p ≡ true → is_left (corner_at a) (corner_at b) p ≡ false
+HullLaw = (net : Net) → IsSheet net → IsLocallyDelaunay net → Encloses net net

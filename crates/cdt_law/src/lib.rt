@@ -2,6 +2,7 @@
 //! is the constrained Delaunay triangulation, of which there is only one; and laws of flips. It never asks how a sheet is kept.
 #![tactic(auto)]
 
+ghost use Rattle.cdt_law.specs.Boundary.{BoundaryLaw};
 ghost use Rattle.cdt_law.specs.Flips.{DestroyedLaw, EditLaw, FallLaw, FlipLaw, KeptLaw};
 ghost use Rattle.cdt_law.specs.Hull.{HullLaw};
 ghost use Rattle.cdt_law.specs.Order.{OrderLaw};
@@ -98,4 +99,10 @@ pub fn hull_law()
 /// with just those: all others stay, with their counts.
 pub fn point_law()
     ensures { PointLaw }
+{}
+
+/// What an edit destroys and what it makes have one boundary: of two sheets that enclose each other's points, the facets
+/// that each has alone have the same edges on their outside, where none of these edges is on the hull.
+pub fn boundary_law()
+    ensures { BoundaryLaw }
 {}
