@@ -197,7 +197,7 @@ some-greatest : (f : Coords → ℤ) (ps : List Coords) (p : Coords) → is_poin
 some-greatest f [] p e = cc
 some-greatest f (q ∷ qs) p e = greatest f q qs
 
-not_left : (a b p : Coords) → side a b p ≤ℤ pos 0 → is_left a b p ≡ false
+pub not_left : (a b p : Coords) → side a b p ≤ℤ pos 0 → is_left a b p ≡ false
 not_left a b p le = by_sign (side a b p)
     (λ lt. ap is_gt (cmp_less (side a b p) lt))
     (λ gt. absurd (never-low (side a b p) gt le))

@@ -46,3 +46,6 @@ pub mod Hull
 -- what two sheets have alone
 pub mod GoneFacets
 pub mod Boundary
+pub mod HighestTurn
+pub mod RingAround
+pub mod Enclosed

@@ -3,6 +3,7 @@
 #![tactic(auto)]
 
 ghost use Rattle.cdt_law.specs.Boundary.{BoundaryLaw};
+ghost use Rattle.cdt_law.specs.Enclose.{EncloseLaw};
 ghost use Rattle.cdt_law.specs.Flips.{DestroyedLaw, EditLaw, FallLaw, FlipLaw, KeptLaw};
 ghost use Rattle.cdt_law.specs.Hull.{HullLaw};
 ghost use Rattle.cdt_law.specs.Order.{OrderLaw};
@@ -105,4 +106,10 @@ pub fn point_law()
 /// that each has alone have the same edges on their outside, where none of these edges is on the hull.
 pub fn boundary_law()
     ensures { BoundaryLaw }
+{}
+
+/// A point more that is within the hull changes no edge of the hull: where one of two locally Delaunay sheets has a point
+/// more, and no facet that it has alone has an edge on the hull, each encloses the points of the other.
+pub fn enclose_law()
+    ensures { EncloseLaw }
 {}
