@@ -7,6 +7,7 @@ mod draws;
 mod edits;
 mod report;
 mod run;
+mod text;
 
 pub use report::Report;
 pub use run::trial;
