@@ -1,6 +1,6 @@
 -- Each status by its number.
-use Rattle.std.proofs.Common.{◌≡◌, ℕ, refl, sym, ap, ◌∙◌}
-use Rattle.std.specs.Prelude.{nat_eq, if◌then◌else◌}
+use Rattle.std.proofs.Common.{◌≡◌, ℕ, nat_eq, refl, sym, ap, ◌∙◌}
+use Rattle.std.specs.Prelude.{if◌then◌else◌}
 use Rattle.terrain_main.specs.declared.status.Status.{Status}
 use Rattle.terrain_main.specs.declared.status.Status.TheVariants.{Ok, Usage, ReadFault, WriteFault, Memory, Spent, LongLine, Cut}
 use Rattle.terrain_main.specs.Commands.{code_of}

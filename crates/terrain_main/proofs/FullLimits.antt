@@ -1,5 +1,5 @@
 -- A session that never began, out of memory.
-use Rattle.std.proofs.Common.{arith, ◌^◌, ◌<◌, ℕ, List, [], length, Option, refl}
+use Rattle.std.proofs.Common.{arith, ◌^◌, ◌<◌, ℕ, List, [], length, refl}
 use Rattle.std.proofs.lemmas.List.Elements.{All-nil}
 use Rattle.ground_io.specs.Wires.{WireView}
 use Rattle.turn_lock.specs.Setting.{Setting}

@@ -1,2 +1,4 @@
 pub mod FullLimits
 pub mod Codes
+pub mod Wholes
+pub mod Trials

@@ -1,16 +1,19 @@
 //! The commands of the program.
 
-ghost use Rattle.std.specs.Prelude.{◌≡◌, ◌≢◌, ◌↔◌, ◌^◌, List, [], length, true, false, IfOk, option_map};
+ghost use Rattle.std.specs.Prelude.{◌≡◌, ◌≢◌, ◌↔◌, ◌^◌, ℕ, List, [], length, Some, None, IfOk, option_map};
 ghost use Rattle.ground_io.specs.Causes.{Rose};
 ghost use Rattle.ground_model.specs.declared.entry.Entry.{Entry};
 ghost use Rattle.turn_lock.specs.Setting.{setting};
 ghost use Rattle.session.specs.Talk.{Talk};
 ghost use Rattle.session.specs.declared.conversation.Ended.TheVariants as ended;
-ghost use Rattle.terrain_main.specs.Commands.{is_talk, IsEmptyGround, both_sides, fault_line, code_of, words_or_none, RunsTalk, PutsLine};
+ghost use Rattle.terrain_main.specs.Commands.{command_of, IsEmptyGround, both_sides, sink_side, fault_line, code_of, words_or_none, RunsTalk, RunsTrial, PutsLine};
+ghost use Rattle.terrain_main.specs.declared.words.Command.TheVariants as commands;
 ghost use Rattle.terrain_main.specs.declared.status.Status.{Status as Ending};
 ghost use Rattle.terrain_main.specs.declared.status.Status.TheVariants.{Usage, ReadFault, WriteFault};
 
+use crate::reporting::run_trial;
 use crate::status::Status;
+use crate::words::{Command, command_of};
 use ground_io::{Pair, Sink, Source, write_all};
 use ground_model::Limits;
 use ground_num::{Head, LinearUnit, Name, Origin, Thousandths};
@@ -20,15 +23,6 @@ use store::Store;
 
 /// The bytes that one session may read.
 const BUDGET: u64 = 1 << 40;
-
-fn is_talk_command(words: &[String]) -> bool
-    ensures { result ≡ is_talk words.now }
-{
-    match words {
-        [word] => word.as_str() == "talk",
-        _ => false,
-    }
-}
 
 // The surface of `talk`: empty, named `ground`, in metres, with the origin 0 0.
 fn empty_ground(alloc: Global) -> Result<Store, AllocError>
@@ -80,27 +74,32 @@ fn run_talk<I: Source, O: Sink>(alloc: Global, input: &mut I, output: &mut O) ->
 }
 
 /// Runs the command that the words are: `talk`, a session over the two streams on an empty
-/// surface. Any other words are `Usage`. It returns, whatever its source and sink do.
+/// surface, or `trial`, which writes its report. Any other words are `Usage`. It returns, whatever
+/// its source and sink do.
 pub fn run<I: Source, O: Sink>(
     alloc: Global,
     words: &[String],
     input: &mut I,
     output: &mut O,
 ) -> Status
-    ensures usage { (result ≡ Usage) ↔ (is_talk words.now ≡ false) }
+    ensures usage { (result ≡ Usage) ↔ (command_of words.now ≡ None) }
     ensures fault_line { result ≡ Usage → PutsLine (O.written output.old) (O.written output.new) (O.write_faults output.old) (O.write_faults output.new) fault_line }
-    ensures unread { result ≡ Usage → input.new ≡ input.old }
-    ensures talks { is_talk words.now ≡ true → RunsTalk (both_sides (I.left input.old) (O.written output.old) (I.read_faults input.old) (O.write_faults output.old)) (both_sides (I.left input.new) (O.written output.new) (I.read_faults input.new) (O.write_faults output.new)) result }
+    ensures unread { command_of words.now ≢ Some commands.Talk → input.new ≡ input.old }
+    ensures talks { command_of words.now ≡ Some commands.Talk → RunsTalk (both_sides (I.left input.old) (O.written output.old) (I.read_faults input.old) (O.write_faults output.old)) (both_sides (I.left input.new) (O.written output.new) (I.read_faults input.new) (O.write_faults output.new)) result }
+    ensures reports { (seed count : ℕ) → command_of words.now ≡ Some (commands.Trial seed count) → RunsTrial seed count (sink_side (O.written output.old) (O.write_faults output.old)) (sink_side (O.written output.new) (O.write_faults output.new)) result }
     ensures read_fault { result ≡ ReadFault → Rose (I.read_faults input.old) (I.read_faults input.new) }
     ensures reads_passed { result ≢ ReadFault → I.read_faults input.new ≡ I.read_faults input.old }
     ensures write_fault { result ≡ WriteFault → Rose (O.write_faults output.old) (O.write_faults output.new) }
-    ensures writes_passed { is_talk words.now ≡ true → result ≢ WriteFault → O.write_faults output.new ≡ O.write_faults output.old }
+    ensures writes_passed { result ≢ Usage → result ≢ WriteFault → O.write_faults output.new ≡ O.write_faults output.old }
 {
-    if is_talk_command(words) {
-        return run_talk(alloc, input, output);
+    match command_of(words) {
+        Some(Command::Talk) => run_talk(alloc, input, output),
+        Some(Command::Trial(seed, count)) => run_trial(alloc, seed, count, output),
+        None => {
+            let _ = write_all(output, b"fault usage\n");
+            Status::Usage
+        }
     }
-    let _ = write_all(output, b"fault usage\n");
-    Status::Usage
 }
 
 /// What `main` does over its real objects: runs the words, and gives the exit status. Words that
@@ -111,10 +110,11 @@ pub fn exit_status<I: Source, O: Sink>(
     input: &mut I,
     output: &mut O,
 ) -> u8
-    ensures usage { (result ≡ code_of Usage) ↔ (is_talk (words_or_none (option_map (λ w. w.items) words)) ≡ false) }
+    ensures usage { (result ≡ code_of Usage) ↔ (command_of (words_or_none (option_map (λ w. w.items) words)) ≡ None) }
     ensures fault_line { result ≡ code_of Usage → PutsLine (O.written output.old) (O.written output.new) (O.write_faults output.old) (O.write_faults output.new) fault_line }
-    ensures unread { result ≡ code_of Usage → input.new ≡ input.old }
-    ensures talks { is_talk (words_or_none (option_map (λ w. w.items) words)) ≡ true → (status : Ending) × (result ≡ code_of status) × RunsTalk (both_sides (I.left input.old) (O.written output.old) (I.read_faults input.old) (O.write_faults output.old)) (both_sides (I.left input.new) (O.written output.new) (I.read_faults input.new) (O.write_faults output.new)) status }
+    ensures unread { command_of (words_or_none (option_map (λ w. w.items) words)) ≢ Some commands.Talk → input.new ≡ input.old }
+    ensures talks { command_of (words_or_none (option_map (λ w. w.items) words)) ≡ Some commands.Talk → (status : Ending) × (result ≡ code_of status) × RunsTalk (both_sides (I.left input.old) (O.written output.old) (I.read_faults input.old) (O.write_faults output.old)) (both_sides (I.left input.new) (O.written output.new) (I.read_faults input.new) (O.write_faults output.new)) status }
+    ensures reports { (seed count : ℕ) → command_of (words_or_none (option_map (λ w. w.items) words)) ≡ Some (commands.Trial seed count) → (status : Ending) × (result ≡ code_of status) × RunsTrial seed count (sink_side (O.written output.old) (O.write_faults output.old)) (sink_side (O.written output.new) (O.write_faults output.new)) status }
     ensures read_fault { result ≡ code_of ReadFault → Rose (I.read_faults input.old) (I.read_faults input.new) }
     ensures write_fault { result ≡ code_of WriteFault → Rose (O.write_faults output.old) (O.write_faults output.new) }
 {

@@ -9,6 +9,7 @@ mod end_tests;
 mod refusal_texts;
 #[cfg(test)]
 mod reply_tests;
+mod reporting;
 #[cfg(test)]
 mod request_tests;
 #[cfg(test)]
@@ -16,6 +17,7 @@ mod session_texts;
 #[cfg(test)]
 mod sessions;
 mod status;
+mod words;
 
 use command::exit_status;
 use ground_io::{StdSink, StdSource};

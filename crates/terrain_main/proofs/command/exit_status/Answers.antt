@@ -6,9 +6,6 @@ use Rattle.terrain_main.proofs.command.exit_status.Goals as goal
 pub returns-in-Some-clause-fault_line : goal.returns-in-Some-clause-fault_line
 returns-in-Some-clause-fault_line g c e = c.run.ensures.fault_line (by_code _ Usage (sym c.code.ensures ∙ e))
 
-pub returns-in-Some-clause-unread : goal.returns-in-Some-clause-unread
-returns-in-Some-clause-unread g c e = c.run.ensures.unread (by_code _ Usage (sym c.code.ensures ∙ e))
-
 pub returns-in-Some-clause-read_fault : goal.returns-in-Some-clause-read_fault
 returns-in-Some-clause-read_fault g c e = c.run.ensures.read_fault (by_code _ ReadFault (sym c.code.ensures ∙ e))
 
@@ -17,9 +14,6 @@ returns-in-Some-clause-write_fault g c e = c.run.ensures.write_fault (by_code _ 
 
 pub returns-in-None-clause-fault_line : goal.returns-in-None-clause-fault_line
 returns-in-None-clause-fault_line g c e = c.run-in-None.ensures.fault_line (by_code _ Usage (sym c.code-in-None.ensures ∙ e))
-
-pub returns-in-None-clause-unread : goal.returns-in-None-clause-unread
-returns-in-None-clause-unread g c e = c.run-in-None.ensures.unread (by_code _ Usage (sym c.code-in-None.ensures ∙ e))
 
 pub returns-in-None-clause-read_fault : goal.returns-in-None-clause-read_fault
 returns-in-None-clause-read_fault g c e = c.run-in-None.ensures.read_fault (by_code _ ReadFault (sym c.code-in-None.ensures ∙ e))
