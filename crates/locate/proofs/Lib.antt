@@ -1,2 +1,4 @@
+pub mod Angles
 pub mod Covered
+pub mod Facets
 pub mod Parts

@@ -1,2 +1,3 @@
+pub mod Facets
 pub mod Parts
 pub mod Spots

@@ -1,12 +1,16 @@
-//! Where a place lies in a mesh, by a walk from triangle to triangle.
+//! Where a place lies in a mesh, by a walk from triangle to triangle, and in which slot a facet stands.
 //! It never changes a mesh, and takes no memory.
 #![tactic(auto)]
 
+mod around;
 mod corners;
+mod facet;
 mod part;
 mod scan;
+mod search;
 mod spot;
 mod walk;
 
+pub use search::find;
 pub use spot::Spot;
 pub use walk::locate;
