@@ -1,0 +1,6 @@
+//! Tests of the crates of the mesh, over the crates as they are built.
+//! In a crate of their own they prove none of them again.
+#![tactic(auto)]
+
+#[cfg(test)]
+mod spots;
