@@ -12,7 +12,9 @@ use mesh::Mesh;
 
 // Where the walk starts: in the hint, or where that slot is free in the first that isn't.
 fn start(mesh: &Mesh, hint: u32) -> u32
-    ensures { IsLive mesh.now.slots hint → result ≡ hint }
+    requires sheet { IsSheetMesh mesh.now.slots }
+    ensures kept { IsLive mesh.now.slots hint → result ≡ hint }
+    ensures live { IsLive mesh.now.slots result }
 {
     if mesh.triangle(hint).is_some() {
         return hint;
@@ -22,7 +24,8 @@ fn start(mesh: &Mesh, hint: u32) -> u32
             return slot;
         }
     }
-    hint
+    // A mesh always has triangles.
+    unreachable!()
 }
 
 // Goes from triangle to triangle over an edge beyond which the place lies, at most as many times as
@@ -30,14 +33,18 @@ fn start(mesh: &Mesh, hint: u32) -> u32
 // could go round for ever.
 fn walk(mesh: &Mesh, place: Place, from: u32) -> Option<Spot>
     requires sheet { IsSheetMesh mesh.now.slots }
+    requires live { IsLive mesh.now.slots from }
     ensures { IfSome result (λ spot. IsSpot mesh.now.slots place spot) }
 {
+    // For the proof: a place is within the limit.
+    let _easting = place.e();
     let mut slot = from;
     for step in 0..mesh.pages().len() {
         match look_in(mesh, slot, place, step % 3) {
             Look::Here(spot) => return Some(spot),
             Look::Next(next) => slot = next,
-            Look::Free => return None,
+            // No place lies beyond the far triangle.
+            Look::Free => unreachable!(),
         }
     }
     None
