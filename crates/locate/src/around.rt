@@ -6,9 +6,9 @@ ghost use Rattle.mesh.specs.Sheets.{IsSheetMesh, IsTurned};
 ghost use Rattle.tri_pages.specs.Slots.{triangle_at};
 ghost use Rattle.locate.specs.Facets.{IsInAngle, IsRound, IsCornerOf};
 
-use crate::corners::{edge_before, seen_from};
 use crate::facet::is_facet_at;
 use crate::part::sign_of;
+use crate::seen::{edge_before, seen_from};
 use ground_model::{Facet, Place};
 use mesh::Mesh;
 use tri_pages::TriSlot;

@@ -5,7 +5,7 @@ ghost use Rattle.ground_model.specs.declared.corner.Corner.TheVariants.{At};
 ghost use Rattle.mesh.specs.Net.{side};
 ghost use Rattle.locate.specs.Facets.{IsFacet, IsFacetAt};
 
-use crate::corners::{Seen, seen_from};
+use crate::seen::{Seen, seen_from};
 use ground_model::{Corner, Facet};
 use tri_pages::TriSlot;
 

@@ -3,11 +3,11 @@
 #![tactic(auto)]
 
 mod around;
-mod corners;
 mod facet;
 mod part;
 mod scan;
 mod search;
+mod seen;
 mod spot;
 mod walk;
 

@@ -8,7 +8,7 @@ ghost use Rattle.mesh.specs.Net.{Side, after, corner_at, first, second, third, s
 ghost use Rattle.mesh.specs.Sheets.{IsTurned};
 ghost use Rattle.locate.specs.Parts.{IsSigned, sign_at, IsPart, HasNoRight, IsRightAt};
 
-use crate::corners::corners_of;
+use crate::seen::seen_from;
 use ground_model::{Corner, Place};
 use predicates::{Sign, side};
 use tri_pages::TriSlot;
@@ -46,10 +46,10 @@ fn sides_of(t: &TriSlot, place: Place) -> Sides
     ensures bc { IsSigned (corner_side (corner_at t.now second) (corner_at t.now third) (At place)) result.bc }
     ensures ca { IsSigned (corner_side (corner_at t.now third) (corner_at t.now first) (At place)) result.ca }
 {
-    let corners = corners_of(t);
-    let ab = sign_of(&corners.a, &corners.b, place);
-    let bc = sign_of(&corners.b, &corners.c, place);
-    let ca = sign_of(&corners.c, &corners.a, place);
+    let seen = seen_from(t, 0);
+    let ab = sign_of(&seen.a, &seen.b, place);
+    let bc = sign_of(&seen.b, &seen.c, place);
+    let ca = sign_of(&seen.c, &seen.a, place);
     Sides { ab, bc, ca }
 }
 

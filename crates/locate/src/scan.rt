@@ -5,8 +5,8 @@ ghost use Rattle.tri_pages.specs.Slots.{triangle_at};
 ghost use Rattle.mesh.specs.Sheets.{IsSheetMesh};
 ghost use Rattle.locate.specs.Spots.{IsLook, IsSpot};
 
-use crate::corners::next_over;
 use crate::part::{Part, part_of};
+use crate::seen::next_over;
 use crate::spot::Spot;
 use ground_model::Place;
 use mesh::Mesh;
