@@ -10,6 +10,8 @@ use Rattle.landxml_read.specs.Values.{decoded}
 use Rattle.landxml_read.specs.Numbers.{decimal_of}
 use Rattle.landxml_read.specs.Faults.{tree_faults, fault}
 use Rattle.landxml_read.specs.Lists.{surfaces_of, unit_of, SurfaceRead}
+use Rattle.landxml_read.specs.Events.{document_events}
+use Rattle.landxml_read.specs.Gather.{gather, nothing, unit_or_meter}
 
 -- text before content
 abbrev text : List ℕ → Content → Content
@@ -193,3 +195,11 @@ whole_surface = record {
 whole_surfaces : surfaces_of whole ≡ whole_surface ∷ []
 unfolding decoded decimal_of rounded
 whole_surfaces = refl
+
+whole_gathered : (gather nothing (document_events whole)).surfaces ≡ whole_surface ∷ []
+unfolding decoded decimal_of rounded
+whole_gathered = refl
+
+whole_first_unit : unit_or_meter (gather nothing (document_events whole)).unit ≡ Foot
+unfolding decoded
+whole_first_unit = refl

@@ -10,6 +10,7 @@ pub mod Scan
 pub mod Utf8
 pub mod Outline
 pub mod Events
+pub mod Gather
 pub mod Tokens
 pub mod Decoding
 pub mod Verdict
