@@ -29,8 +29,8 @@ fn start(mesh: &Mesh, hint: u32) -> u32
 }
 
 // Goes from triangle to triangle over an edge beyond which the place lies, at most as many times as
-// there are slots. The edges are tried in turn: in one order alone a walk over constrained edges
-// could go round for ever.
+// there are slots. Each step begins with another edge: where a mesh isn't Delaunay, a walk that tries
+// them in one order can go round for ever.
 fn walk(mesh: &Mesh, place: Place, from: u32) -> Option<Spot>
     requires sheet { IsSheetMesh mesh.now.slots }
     requires live { IsLive mesh.now.slots from }
