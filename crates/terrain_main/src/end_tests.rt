@@ -33,6 +33,21 @@ walk||stat;|2;fault usage;
 talk talk||stat;|2;fault usage;
 ||stat;|2;fault usage;
 walk|write 1|stat;|2;
+trial 0 0||stat;|0;trial 0 0 front 0 points 0 lines 0 refused 0 conflicts 0 facets 0 cut 0 fill 0 net 0;
+trial 0 1||stat;|0;trial 0 1 front 1 points 1 lines 0 refused 0 conflicts 0 facets 0 cut 0 fill 0 net 0;
+trial 0 3||stat;|0;trial 0 3 front 3 points 3 lines 0 refused 0 conflicts 0 facets 1 cut 0 fill 9012203745075 net -9012203745075;
+trial 4 3||stat;|0;trial 4 3 front 3 points 3 lines 0 refused 0 conflicts 0 facets 1 cut 26582603630976 fill 0 net 26582603630976;
+trial 18446744073709551615 0|read 1||0;trial 18446744073709551615 0 front 0 points 0 lines 0 refused 0 conflicts 0 facets 0 cut 0 fill 0 net 0;
+trial 0 1|write 1|stat;|5;
+trial 18446744073709551616 0||stat;|2;fault usage;
+trial 0 100001||stat;|2;fault usage;
+trial 0||stat;|2;fault usage;
+trial 0 1 1||stat;|2;fault usage;
+trial 00 1||stat;|2;fault usage;
+trial 0 +1||stat;|2;fault usage;
+trial -0 1||stat;|2;fault usage;
+trial 0 1.0||stat;|2;fault usage;
+trial 0  1||stat;|2;fault usage;
 talk|read 1|stat;|4;
 talk|write 1|stat;|5;
 talk||stat|12;";
@@ -70,7 +85,7 @@ fn source_of(alloc: Global, fault: &str, input: &str) -> Result<MemSource, Fail>
 }
 
 fn sink_of(alloc: Global, fault: &str) -> Result<MemSink, Fail> {
-    Ok(MemSink::new(alloc, 128, &[failing(fault, "write")?])?)
+    Ok(MemSink::new(alloc, 256, &[failing(fault, "write")?])?)
 }
 
 fn expect(rt: &impl Abort, alloc: Global, found: &str, wanted: &str) -> Result<(), Fail> {

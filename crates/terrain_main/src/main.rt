@@ -17,6 +17,8 @@ mod session_texts;
 #[cfg(test)]
 mod sessions;
 mod status;
+#[cfg(test)]
+mod trial_tests;
 mod words;
 
 use command::exit_status;

@@ -8,7 +8,7 @@ use session::Ended;
 /// A name for each exit status.
 #[derive(Clone, Copy, Debug, PartialEq, Eq)]
 pub enum Status {
-    /// The session ended by `quit` or by the end of its input, and all output was written.
+    /// All output was written. A session ended by `quit` or by the end of its input.
     Ok,
     /// The words are no command. The fault line was written, or a beginning of it.
     Usage,
