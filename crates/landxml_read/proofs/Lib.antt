@@ -27,3 +27,9 @@ pub mod FirstShown
 pub mod Readers
 pub mod Decodings
 pub mod Decimals
+pub mod Nesting
+pub mod Places
+pub mod Gathering
+pub mod Effects
+pub mod Growing
+pub mod Gathered

@@ -155,9 +155,11 @@ unit_in e = of_kind e.kind where
   of_kind UnitOf = Some (named_unit (unwrap_or (value_of e) []))
   of_kind _ = None
 
--- the first unit of a document, or the meter
+-- the first unit, or the meter
+abbrev pub first_or_meter : List LinearUnit → LinearUnit
+first_or_meter [] = Meter
+first_or_meter (unit ∷ units) = unit
+
+-- the unit of a document
 abbrev pub unit_of : Document → LinearUnit
-unit_of d = first (filter_map unit_in (document_elements d)) where
-  first : List LinearUnit → LinearUnit
-  first [] = Meter
-  first (unit ∷ units) = unit
+unit_of d = first_or_meter (filter_map unit_in (document_elements d))
