@@ -10,7 +10,11 @@ use Rattle.landxml_read.specs.declared.kind.Kind.{Kind}
 use Rattle.landxml_read.specs.declared.kind.Kind.TheVariants.{Outside, Root, Units, UnitOf, Surfaces, Surface, SourceData, Boundaries, Boundary, Breaklines, Breakline, DataPoints, Triples, Pairs, Definition, Points, Point, Faces, Face, Skipped}
 use Rattle.landxml_read.specs.Markup.{Content, Nothing, Byte, Comment, Instruction, CData, Empty, Element, content_text, start_text, empty_text, end_text}
 use Rattle.landxml_read.specs.Elements.{Found, below, elements, empty_found, whole_found}
-use Rattle.landxml_read.specs.Lists.{triples_of, pairs_of, vertices_of, line_of, id_of, face_of, LineRead, IdRead, FaceRead, SurfaceRead}
+use Rattle.landxml_read.specs.declared.raw.RawLine.{RawLine}
+use Rattle.landxml_read.specs.declared.raw.RawId.{RawId}
+use Rattle.landxml_read.specs.declared.raw.RawFace.{RawFace}
+use Rattle.landxml_read.specs.declared.raw.RawSurface.{RawSurface}
+use Rattle.landxml_read.specs.Lists.{triples_of, pairs_of, vertices_of, line_of, id_of, face_of}
 use Rattle.landxml_read.specs.Gather.{Gathered, with_vertices}
 use Rattle.landxml_read.proofs.Nesting.{fits, filter_map_more, flat_more}
 use Rattle.landxml_read.proofs.Gathering.{with_none, with_more, at_rest}
@@ -20,9 +24,9 @@ pub record Effect : Type 0 where
   pub triples : List Triple
   pub pairs : List Pair2
   pub vertices : List RawVertex
-  pub lines : List LineRead
-  pub ids : List IdRead
-  pub faces : List FaceRead
+  pub lines : List RawLine
+  pub ids : List RawId
+  pub faces : List RawFace
 
 -- nothing
 abbrev pub no_effect : Effect
@@ -62,7 +66,7 @@ led_by surface e x = record {
 }
 
 -- the surface with it
-abbrev pub added : Effect → SurfaceRead → SurfaceRead
+abbrev pub added : Effect → RawSurface → RawSurface
 added x s = record s {
   triples = s.triples ++ x.triples;
   pairs = s.pairs ++ x.pairs;
@@ -72,7 +76,7 @@ added x s = record s {
 }
 
 -- what is gathered with it
-abbrev pub effected : Option LinearUnit → List SurfaceRead → Effect → SurfaceRead → Option LineRead → Gathered
+abbrev pub effected : Option LinearUnit → List RawSurface → Effect → RawSurface → Option RawLine → Gathered
 effected u ss x s line = at_rest u ss (added x s) (with_vertices x.vertices line)
 
 pub effect_more : (surface : Found) (es fs : List Found) → effect_of surface (es ++ fs) ≡ joined (effect_of surface es) (effect_of surface fs)
@@ -85,7 +89,7 @@ effect_more surface es fs =
     let f = filter_map_more face_of es fs in
     λ i. record { triples = a i; pairs = b i; vertices = c i; lines = d i; ids = e i; faces = f i }
 
-pub effected_joined : (u : Option LinearUnit) (ss : List SurfaceRead) (x y : Effect) (s : SurfaceRead) (line : Option LineRead)
+pub effected_joined : (u : Option LinearUnit) (ss : List RawSurface) (x y : Effect) (s : RawSurface) (line : Option RawLine)
     → effected u ss y (added x s) (with_vertices x.vertices line) ≡ effected u ss (joined x y) s line
 effected_joined u ss x y s line =
     let a = append_assoc s.triples x.triples y.triples in
@@ -96,7 +100,7 @@ effected_joined u ss x y s line =
     let v = with_more x.vertices y.vertices line in
     λ i. at_rest u ss (record s { triples = a i; pairs = b i; lines = d i; ids = e i; faces = f i }) (v i)
 
-pub effected_nothing : (u : Option LinearUnit) (ss : List SurfaceRead) (s : SurfaceRead) (line : Option LineRead) → effected u ss no_effect s line ≡ at_rest u ss s line
+pub effected_nothing : (u : Option LinearUnit) (ss : List RawSurface) (s : RawSurface) (line : Option RawLine) → effected u ss no_effect s line ≡ at_rest u ss s line
 effected_nothing u ss s line =
     let a = append-nil s.triples in
     let b = append-nil s.pairs in
@@ -157,7 +161,7 @@ no_line_in surface e h = by e.kind h
     by Skipped h = refl
 
 -- as many triples and pairs as in the elements before
-pub record IsCounted (pre : List Found) (s : SurfaceRead) : Type 0 where
+pub record IsCounted (pre : List Found) (s : RawSurface) : Type 0 where
   pub triples : length s.triples ≡ length (flat_map triples_of pre)
   pub pairs : length s.pairs ≡ length (flat_map pairs_of pre)
 
@@ -165,11 +169,11 @@ length_more : {X : Type 0} (f : Found → List X) (xs : List X) (pre es : List F
 length_more f xs pre es h =
     length-append xs (flat_map f es) ∙ ap (λ n. n + length (flat_map f es)) h ∙ sym (length-append (flat_map f pre) (flat_map f es)) ∙ ap length (sym (flat_more f pre es))
 
-pub counted_more : (surface : Found) (pre es : List Found) (s : SurfaceRead) → IsCounted pre s → IsCounted (pre ++ es) (added (effect_of surface es) s)
+pub counted_more : (surface : Found) (pre es : List Found) (s : RawSurface) → IsCounted pre s → IsCounted (pre ++ es) (added (effect_of surface es) s)
 counted_more surface pre es s c = record { triples = length_more triples_of s.triples pre es c.triples; pairs = length_more pairs_of s.pairs pre es c.pairs }
 
 -- an element with none
-pub counted_on : (pre : List Found) (e : Found) (s : SurfaceRead) → triples_of e ≡ [] → pairs_of e ≡ [] → IsCounted pre s → IsCounted (pre ++ e ∷ []) s
+pub counted_on : (pre : List Found) (e : Found) (s : RawSurface) → triples_of e ≡ [] → pairs_of e ≡ [] → IsCounted pre s → IsCounted (pre ++ e ∷ []) s
 counted_on pre e s a b c = record {
   triples = ap length (sym (append-nil s.triples) ∙ ap (λ xs. s.triples ++ (xs ++ [])) (sym a)) ∙ length_more triples_of s.triples pre (e ∷ []) c.triples;
   pairs = ap length (sym (append-nil s.pairs) ∙ ap (λ xs. s.pairs ++ (xs ++ [])) (sym b)) ∙ length_more pairs_of s.pairs pre (e ∷ []) c.pairs;

@@ -9,7 +9,8 @@ use Rattle.landxml_read.specs.Markup.{Content, Nothing, Byte, Comment, CData, Em
 use Rattle.landxml_read.specs.Values.{decoded}
 use Rattle.landxml_read.specs.Numbers.{decimal_of}
 use Rattle.landxml_read.specs.Faults.{tree_faults, fault}
-use Rattle.landxml_read.specs.Lists.{surfaces_of, unit_of, SurfaceRead}
+use Rattle.landxml_read.specs.declared.raw.RawSurface.{RawSurface}
+use Rattle.landxml_read.specs.Lists.{surfaces_of, unit_of}
 use Rattle.landxml_read.specs.Events.{document_events}
 use Rattle.landxml_read.specs.Gather.{gather, nothing, unit_or_meter}
 
@@ -181,7 +182,7 @@ unfolding decoded
 whole_unit = refl
 
 -- its one surface, with each offset
-abbrev whole_surface : SurfaceRead
+abbrev whole_surface : RawSurface
 whole_surface = record {
   at = 63;
   name = codes "E&G";
@@ -189,7 +190,7 @@ whole_surface = record {
   pairs = (record { n = record { 0 = pos 1000 }; e = record { 0 = pos 2000 }; at = 229 }) ∷ [];
   lines = (record { at = 111; kind = kind.Breakline; vertices = vertex.Triple 0 ∷ vertex.Triple 1 ∷ [] }) ∷ (record { at = 193; kind = kind.Void; vertices = vertex.Pair 0 ∷ [] }) ∷ [];
   ids = (record { at = 299; id = codes "p"; triple = 2 }) ∷ [];
-  faces = (record { at = 333; ids = codes "p" ∷ codes "q" ∷ codes "r" ∷ [] }) ∷ [];
+  faces = (record { at = 333; a = codes "p"; b = codes "q"; c = codes "r" }) ∷ [];
 }
 
 whole_surfaces : surfaces_of whole ≡ whole_surface ∷ []

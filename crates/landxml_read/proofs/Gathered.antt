@@ -8,7 +8,8 @@ use Rattle.landxml_read.specs.declared.kind.Kind.TheVariants.{Outside, Root, Uni
 use Rattle.landxml_read.specs.Markup.{Content, Nothing, Byte, Comment, Instruction, CData, Empty, Element, content_text, start_text, empty_text, end_text, Document, mark}
 use Rattle.landxml_read.specs.Elements.{Found, below, elements, empty_found, whole_found}
 use Rattle.landxml_read.specs.Faults.{has_text, read_name, value_of, document_elements}
-use Rattle.landxml_read.specs.Lists.{inner, SurfaceRead, surface_of, surfaces_of, unit_in, unit_of, first_or_meter}
+use Rattle.landxml_read.specs.declared.raw.RawSurface.{RawSurface}
+use Rattle.landxml_read.specs.Lists.{inner, surface_of, surfaces_of, unit_in, unit_of, first_or_meter}
 use Rattle.landxml_read.specs.Events.{Opened, Closed, closing, no_word, word_after, ended_by, ampersands, read, events, document_events}
 use Rattle.landxml_read.specs.Gather.{Gathered, no_surface, nothing, first_unit, opened, closed, gather, unit_or_meter}
 use Rattle.landxml_read.proofs.ReadValues.{read_values}
@@ -28,10 +29,10 @@ units_more unit [] ys = refl
 units_more unit (x ∷ xs) ys = units_more (first_unit unit x) xs ys
 
 -- with the units and surfaces of some elements
-abbrev with_found : Option LinearUnit → List SurfaceRead → List Found → Gathered
+abbrev with_found : Option LinearUnit → List RawSurface → List Found → Gathered
 with_found u ss es = at_rest (units_after u (filter_map unit_in es)) (ss ++ filter_map surface_of es) no_surface None
 
-found_more : (u : Option LinearUnit) (ss : List SurfaceRead) (es fs : List Found) → with_found (units_after u (filter_map unit_in es)) (ss ++ filter_map surface_of es) fs ≡ with_found u ss (es ++ fs)
+found_more : (u : Option LinearUnit) (ss : List RawSurface) (es fs : List Found) → with_found (units_after u (filter_map unit_in es)) (ss ++ filter_map surface_of es) fs ≡ with_found u ss (es ++ fs)
 found_more u ss es fs =
     let a = sym (units_more u (filter_map unit_in es) (filter_map unit_in fs)) ∙ ap (units_after u) (sym (filter_map_more unit_in es fs)) in
     let b = append_assoc ss (filter_map surface_of es) (filter_map surface_of fs) ∙ ap (λ xs. ss ++ xs) (sym (filter_map_more surface_of es fs)) in
@@ -40,7 +41,7 @@ found_more u ss es fs =
 -- what content shows gathers what its elements are
 abbrev Finds : Kind → ℕ → ℕ → Content → Type 0
 Finds k depth at x =
-    (u : Option LinearUnit) (ss : List SurfaceRead) → holds_surfaces k ≡ true → gather (at_rest u ss no_surface None) (events k depth at no_word x) ≡ with_found u ss (elements k depth at x)
+    (u : Option LinearUnit) (ss : List RawSurface) → holds_surfaces k ≡ true → gather (at_rest u ss no_surface None) (events k depth at no_word x) ≡ with_found u ss (elements k depth at x)
 
 -- no element in a surface is a surface
 no_surface_in : (e : Found) → fits false e.kind ≡ true → surface_of e ≡ None
@@ -99,15 +100,15 @@ abbrev within : Kind → Found → List Found
 within k e = elements k e.depth (e.tag_end + 1) e.inside
 
 -- after the tag of an element and what stands in it
-abbrev shown : Kind → Found → Option LinearUnit → List SurfaceRead → Gathered
+abbrev shown : Kind → Found → Option LinearUnit → List RawSurface → Gathered
 shown k e u ss = gather (opened k e.at (unwrap_or (value_of (of_kind e k)) []) (at_rest u ss no_surface None)) (events k e.depth (e.tag_end + 1) no_word e.inside)
 
-surface_shown : (e : Found) (u : Option LinearUnit) (ss : List SurfaceRead) → closed Surface (shown Surface e u ss) ≡ with_found u ss (of_kind e Surface ∷ within Surface e)
+surface_shown : (e : Found) (u : Option LinearUnit) (ss : List RawSurface) → closed Surface (shown Surface e u ss) ≡ with_found u ss (of_kind e Surface ∷ within Surface e)
 surface_shown e u ss =
     let own = of_kind e Surface in
     let es = within Surface e in
     let name = unwrap_or (value_of own) [] in
-    let s : SurfaceRead = record no_surface { at = e.at; name = name } in
+    let s : RawSurface = record no_surface { at = e.at; name = name } in
     let part : IsPart own (e.tag_end + 1) (end_of (e.tag_end + 1) e.inside) es [] [] = record { is = sym (append-nil es); early = λ offset h. refl; late = λ offset h. refl } in
     let counted : IsCounted [] s = record { triples = refl; pairs = refl } in
     let no_units = nothing_made unit_in (fits false) surface_below no_unit_in Surface (λ n. fits_below false Surface n refl) e.depth (e.tag_end + 1) e.inside in
@@ -118,7 +119,7 @@ surface_shown e u ss =
     ∙ (λ i. at_rest (a i) (b i) no_surface None)
 
 -- an element of a kind
-element_shown : (k : Kind) (e : Found) (u : Option LinearUnit) (ss : List SurfaceRead) → fits_outside k ≡ true → Finds k e.depth (e.tag_end + 1) e.inside → closed k (shown k e u ss) ≡ with_found u ss (of_kind e k ∷ within k e)
+element_shown : (k : Kind) (e : Found) (u : Option LinearUnit) (ss : List RawSurface) → fits_outside k ≡ true → Finds k e.depth (e.tag_end + 1) e.inside → closed k (shown k e u ss) ≡ with_found u ss (of_kind e k ∷ within k e)
 element_shown Outside e u ss f again = cc
 element_shown Root e u ss f again = again u ss refl
 element_shown Units e u ss f again = again u ss refl

@@ -12,7 +12,9 @@ use Rattle.landxml_read.specs.Markup.{StartTag, EndTag, Content, Nothing, Byte, 
 use Rattle.landxml_read.specs.Elements.{below}
 use Rattle.landxml_read.specs.Words.{Word}
 use Rattle.landxml_read.specs.Faults.{has_text}
-use Rattle.landxml_read.specs.Lists.{number, by_three, by_two, counted, LineRead, SurfaceRead}
+use Rattle.landxml_read.specs.declared.raw.RawLine.{RawLine}
+use Rattle.landxml_read.specs.declared.raw.RawSurface.{RawSurface}
+use Rattle.landxml_read.specs.Lists.{number, by_three, by_two, counted}
 use Rattle.landxml_read.specs.Events.{Event, Opened, Ampersand, Closed, opening, closing, empty_events, no_word, finished, word_after, ended_by, ampersands, quotes, read, words_read, events}
 use Rattle.landxml_read.specs.Gather.{Gathered, gathered, opened, with_vertices, to_triple, with_text, closed, gather}
 
@@ -111,18 +113,18 @@ text_read k has none depth at w (Element tag inside end after) g =
 
 -- lines
 
-pub with_none : (line : Option LineRead) → with_vertices [] line ≡ line
+pub with_none : (line : Option RawLine) → with_vertices [] line ≡ line
 with_none None = refl
 with_none (Some l) = ap (λ vs. Some (record l { vertices = vs })) (append-nil l.vertices)
 
-pub with_more : (vs ws : List RawVertex) (line : Option LineRead) → with_vertices ws (with_vertices vs line) ≡ with_vertices (vs ++ ws) line
+pub with_more : (vs ws : List RawVertex) (line : Option RawLine) → with_vertices ws (with_vertices vs line) ≡ with_vertices (vs ++ ws) line
 with_more vs ws None = refl
 with_more vs ws (Some l) = ap (λ us. Some (record l { vertices = us })) (append_assoc l.vertices vs ws)
 
 -- words
 
 -- where no word, face or further line is open
-abbrev pub at_rest : Option LinearUnit → List SurfaceRead → SurfaceRead → Option LineRead → Gathered
+abbrev pub at_rest : Option LinearUnit → List RawSurface → RawSurface → Option RawLine → Gathered
 at_rest u ss s line = record { unit = u; surfaces = ss; surface = s; line = line; face_at = 0; words = [] }
 
 -- so many vertices from an index of triples on
@@ -137,13 +139,13 @@ length_push : {X : Type 0} (xs : List X) (x : X) → length (xs ++ x ∷ []) ≡
 length_push xs x = let a = length-append xs (x ∷ []) in omega (arith, a)
 
 -- with further triples
-abbrev pub triples_added : Option LinearUnit → List SurfaceRead → SurfaceRead → Option LineRead → List Triple → Gathered
+abbrev pub triples_added : Option LinearUnit → List RawSurface → RawSurface → Option RawLine → List Triple → Gathered
 triples_added u ss s line ts = at_rest u ss (record s { triples = s.triples ++ ts }) (with_vertices (triple_vertices (length s.triples) (length ts)) line)
 
-no_triples : (u : Option LinearUnit) (ss : List SurfaceRead) (s : SurfaceRead) (line : Option LineRead) → at_rest u ss s line ≡ triples_added u ss s line []
+no_triples : (u : Option LinearUnit) (ss : List RawSurface) (s : RawSurface) (line : Option RawLine) → at_rest u ss s line ≡ triples_added u ss s line []
 no_triples u ss s line = let a = sym (append-nil s.triples) in let b = sym (with_none line) in λ i. at_rest u ss (record s { triples = a i }) (b i)
 
-pub three_words : (u : Option LinearUnit) (ss : List SurfaceRead) (ws : List Word) (s : SurfaceRead) (line : Option LineRead) → closed Triples (reads Triples ws (at_rest u ss s line)) ≡ triples_added u ss s line (by_three ws)
+pub three_words : (u : Option LinearUnit) (ss : List RawSurface) (ws : List Word) (s : RawSurface) (line : Option RawLine) → closed Triples (reads Triples ws (at_rest u ss s line)) ≡ triples_added u ss s line (by_three ws)
 three_words u ss [] s line = no_triples u ss s line
 three_words u ss (a ∷ []) s line = no_triples u ss s line
 three_words u ss (a ∷ b ∷ []) s line = no_triples u ss s line
@@ -155,13 +157,13 @@ three_words u ss (a ∷ b ∷ c ∷ ws) s line =
     three_words u ss ws (record s { triples = s.triples ++ t ∷ [] }) (with_vertices (v ∷ []) line) ∙ (λ i. at_rest u ss (record s { triples = p i }) (q i))
 
 -- with further pairs
-abbrev pub pairs_added : Option LinearUnit → List SurfaceRead → SurfaceRead → Option LineRead → List Pair2 → Gathered
+abbrev pub pairs_added : Option LinearUnit → List RawSurface → RawSurface → Option RawLine → List Pair2 → Gathered
 pairs_added u ss s line ps = at_rest u ss (record s { pairs = s.pairs ++ ps }) (with_vertices (pair_vertices (length s.pairs) (length ps)) line)
 
-no_pairs : (u : Option LinearUnit) (ss : List SurfaceRead) (s : SurfaceRead) (line : Option LineRead) → at_rest u ss s line ≡ pairs_added u ss s line []
+no_pairs : (u : Option LinearUnit) (ss : List RawSurface) (s : RawSurface) (line : Option RawLine) → at_rest u ss s line ≡ pairs_added u ss s line []
 no_pairs u ss s line = let a = sym (append-nil s.pairs) in let b = sym (with_none line) in λ i. at_rest u ss (record s { pairs = a i }) (b i)
 
-pub two_words : (u : Option LinearUnit) (ss : List SurfaceRead) (ws : List Word) (s : SurfaceRead) (line : Option LineRead) → closed Pairs (reads Pairs ws (at_rest u ss s line)) ≡ pairs_added u ss s line (by_two ws)
+pub two_words : (u : Option LinearUnit) (ss : List RawSurface) (ws : List Word) (s : RawSurface) (line : Option RawLine) → closed Pairs (reads Pairs ws (at_rest u ss s line)) ≡ pairs_added u ss s line (by_two ws)
 two_words u ss [] s line = no_pairs u ss s line
 two_words u ss (a ∷ []) s line = no_pairs u ss s line
 two_words u ss (a ∷ b ∷ ws) s line =

@@ -11,7 +11,11 @@ use Rattle.landxml_read.specs.Markup.{Content, Nothing, Byte, Comment, Instructi
 use Rattle.landxml_read.specs.Elements.{Found, below, elements, empty_found, whole_found}
 use Rattle.landxml_read.specs.Words.{Word, words, parts}
 use Rattle.landxml_read.specs.Faults.{has_text, read_name, value_of, parts_of}
-use Rattle.landxml_read.specs.Lists.{by_three, by_two, before, triples_of, pairs_of, vertices_of, line_of, ring_kind, LineRead, IdRead, FaceRead, SurfaceRead}
+use Rattle.landxml_read.specs.declared.raw.RawLine.{RawLine}
+use Rattle.landxml_read.specs.declared.raw.RawId.{RawId}
+use Rattle.landxml_read.specs.declared.raw.RawFace.{RawFace}
+use Rattle.landxml_read.specs.declared.raw.RawSurface.{RawSurface}
+use Rattle.landxml_read.specs.Lists.{by_three, by_two, before, triples_of, pairs_of, vertices_of, line_of, ring_kind, face_in}
 use Rattle.landxml_read.specs.Events.{Opened, Closed, opening, closing, empty_events, no_word, word_after, ended_by, ampersands, quotes, read, words_read, events}
 use Rattle.landxml_read.specs.Gather.{Gathered, opened, with_vertices, closed, gather}
 use Rattle.landxml_read.proofs.ReadValues.{read_values}
@@ -25,11 +29,11 @@ use Rattle.landxml_read.proofs.Effects.{Effect, no_effect, effect_of, joined, le
 abbrev words_at : Found → List Word
 words_at e = words (parts_of e)
 
-module _ (surface : Found) (u : Option LinearUnit) (ss : List SurfaceRead) where
+module _ (surface : Found) (u : Option LinearUnit) (ss : List RawSurface) where
   -- what content shows adds what its elements do
   abbrev pub Grows : Bool → Kind → ℕ → ℕ → Content → Type 0
   Grows in_line k depth at x =
-      (pre post : List Found) (s : SurfaceRead) (line : Option LineRead) → holds in_line k ≡ true → IsPart surface at (end_of at x) (elements k depth at x) pre post
+      (pre post : List Found) (s : RawSurface) (line : Option RawLine) → holds in_line k ≡ true → IsPart surface at (end_of at x) (elements k depth at x) pre post
       → (in_line ≡ false → line ≡ None) → IsCounted pre s
       → gather (at_rest u ss s line) (events k depth at no_word x) ≡ effected u ss (effect_of surface (elements k depth at x)) s line
 
@@ -44,11 +48,11 @@ module _ (surface : Found) (u : Option LinearUnit) (ss : List SurfaceRead) where
     pub end : end_of (e.tag_end + 1) e.inside ≤ to
 
   -- after the tag of an element and what stands in it
-  abbrev shown : Kind → Found → SurfaceRead → Option LineRead → Gathered
+  abbrev shown : Kind → Found → RawSurface → Option RawLine → Gathered
   shown k e s line = gather (opened k e.at (unwrap_or (value_of (of_kind e k)) []) (at_rest u ss s line)) (events k e.depth (e.tag_end + 1) no_word e.inside)
 
   -- what is expected of it
-  abbrev expected : Kind → Found → SurfaceRead → Option LineRead → Gathered
+  abbrev expected : Kind → Found → RawSurface → Option RawLine → Gathered
   expected k e s line = effected u ss (effect_of surface (of_kind e k ∷ within k e)) s line
 
   -- its elements alone
@@ -66,11 +70,11 @@ module _ (surface : Found) (u : Option LinearUnit) (ss : List SurfaceRead) where
       before_is surface e.at to (of_kind e k ∷ within k e) pre post (omega (arith, a, b)) (upto_later e.at (of_kind e k) (within k e) (omega arith) ∙ none_before k e.depth (e.tag_end + 1) e.inside e.at (omega (arith, a))) p.part
 
   -- how many triples are before it
-  triples_before : (k : Kind) (e : Found) (to : ℕ) (pre post : List Found) (s : SurfaceRead) → IsPlaced k e to pre post → IsCounted pre s → length (flat_map triples_of (before e.at surface)) ≡ length s.triples
+  triples_before : (k : Kind) (e : Found) (to : ℕ) (pre post : List Found) (s : RawSurface) → IsPlaced k e to pre post → IsCounted pre s → length (flat_map triples_of (before e.at surface)) ≡ length s.triples
   triples_before k e to pre post s p c = ap (λ xs. length (flat_map triples_of xs)) (before_it k e to pre post p) ∙ sym c.triples
 
   -- how many pairs are before it
-  pairs_before : (k : Kind) (e : Found) (to : ℕ) (pre post : List Found) (s : SurfaceRead) → IsPlaced k e to pre post → IsCounted pre s → length (flat_map pairs_of (before e.at surface)) ≡ length s.pairs
+  pairs_before : (k : Kind) (e : Found) (to : ℕ) (pre post : List Found) (s : RawSurface) → IsPlaced k e to pre post → IsCounted pre s → length (flat_map pairs_of (before e.at surface)) ≡ length s.pairs
   pairs_before k e to pre post s p c = ap (λ xs. length (flat_map pairs_of xs)) (before_it k e to pre post p) ∙ sym c.pairs
 
   -- the words of an element whose text is read
@@ -81,7 +85,7 @@ module _ (surface : Found) (u : Option LinearUnit) (ss : List SurfaceRead) where
   text_within : (k : Kind) → ((name : List ℕ) → below k name ≡ Skipped) → (e : Found) → effect_of surface (of_kind e k ∷ within k e) ≡ led_by surface (of_kind e k) no_effect
   text_within k none e = ap (led_by surface (of_kind e k)) (skipped_effect surface k none e.depth (e.tag_end + 1) e.inside)
 
-  triples_shown : (e : Found) (to : ℕ) (pre post : List Found) (s : SurfaceRead) (line : Option LineRead) → IsPlaced Triples e to pre post → IsCounted pre s → closed Triples (shown Triples e s line) ≡ expected Triples e s line
+  triples_shown : (e : Found) (to : ℕ) (pre post : List Found) (s : RawSurface) (line : Option RawLine) → IsPlaced Triples e to pre post → IsCounted pre s → closed Triples (shown Triples e s line) ≡ expected Triples e s line
   triples_shown e to pre post s line p c =
       let ts = by_three (words_at e) in
       let a = sym (append-nil ts) in
@@ -97,7 +101,7 @@ module _ (surface : Found) (u : Option LinearUnit) (ss : List SurfaceRead) where
       ∙ (λ i. at_rest u ss (record s { triples = s.triples ++ a i; pairs = b i; lines = d i; ids = f i; faces = g i }) (with_vertices (w i) line))
       ∙ ap (λ x. effected u ss x s line) (sym (text_within Triples (λ name. refl) e))
 
-  pairs_shown : (e : Found) (to : ℕ) (pre post : List Found) (s : SurfaceRead) (line : Option LineRead) → IsPlaced Pairs e to pre post → IsCounted pre s → closed Pairs (shown Pairs e s line) ≡ expected Pairs e s line
+  pairs_shown : (e : Found) (to : ℕ) (pre post : List Found) (s : RawSurface) (line : Option RawLine) → IsPlaced Pairs e to pre post → IsCounted pre s → closed Pairs (shown Pairs e s line) ≡ expected Pairs e s line
   pairs_shown e to pre post s line p c =
       let ts = by_two (words_at e) in
       let a = sym (append-nil ts) in
@@ -113,10 +117,10 @@ module _ (surface : Found) (u : Option LinearUnit) (ss : List SurfaceRead) where
       ∙ (λ i. at_rest u ss (record s { pairs = s.pairs ++ a i; triples = b i; lines = d i; ids = f i; faces = g i }) (with_vertices (w i) line))
       ∙ ap (λ x. effected u ss x s line) (sym (text_within Pairs (λ name. refl) e))
 
-  point_shown : (e : Found) (to : ℕ) (pre post : List Found) (s : SurfaceRead) (line : Option LineRead) → IsPlaced Point e to pre post → IsCounted pre s → closed Point (shown Point e s line) ≡ expected Point e s line
+  point_shown : (e : Found) (to : ℕ) (pre post : List Found) (s : RawSurface) (line : Option RawLine) → IsPlaced Point e to pre post → IsCounted pre s → closed Point (shown Point e s line) ≡ expected Point e s line
   point_shown e to pre post s line p c =
       let ts = by_three (words_at e) in
-      let id : ℕ → IdRead = λ n. record { at = e.at; id = unwrap_or (value_of (of_kind e Point)) []; triple = n } in
+      let id : ℕ → RawId = λ n. record { at = e.at; id = unwrap_or (value_of (of_kind e Point)) []; triple = n } in
       let with_id = record s { ids = s.ids ++ id (length s.triples) ∷ [] } in
       let n = sym (triples_before Point e to pre post s p c) in
       let a = sym (append-nil ts) in
@@ -131,51 +135,51 @@ module _ (surface : Found) (u : Option LinearUnit) (ss : List SurfaceRead) where
       ∙ (λ i. at_rest u ss (record s { triples = s.triples ++ a i; pairs = b i; lines = d i; ids = s.ids ++ id (n i) ∷ []; faces = g i }) (with_vertices (w i) line))
       ∙ ap (λ x. effected u ss x s line) (sym (text_within Point (λ name. refl) e))
 
-  face_shown : (e : Found) (s : SurfaceRead) (line : Option LineRead) → closed Face (shown Face e s line) ≡ expected Face e s line
+  face_shown : (e : Found) (s : RawSurface) (line : Option RawLine) → closed Face (shown Face e s line) ≡ expected Face e s line
   face_shown e s line =
-      let face : FaceRead = record { at = e.at; ids = map (λ w. w.text) (words_at e) } in
-      let put : Gathered → Gathered = λ g. record g { surface = record g.surface { faces = s.faces ++ face ∷ [] } } in
+      let face = face_in e.at (words_at e) in
+      let put : Gathered → Gathered = λ g. record g { surface = record g.surface { faces = s.faces ++ cons_option face [] } } in
       let nothing = sym (effected_nothing u ss s line) in
       ap (closed Face) (text_shown Face refl (λ name. refl) e (record (at_rest u ss s line) { face_at = e.at }) ∙ face_words (words_at e) [] (record (at_rest u ss s line) { face_at = e.at }))
       ∙ ap put nothing
       ∙ ap (λ x. effected u ss x s line) (sym (text_within Face (λ name. refl) e))
 
   -- a line adds its own lists, and itself
-  line_shown : (k : Kind) (e : Found) (to : ℕ) (pre post : List Found) (s : SurfaceRead) (kind : RawKind) → IsPlaced k e to pre post → IsCounted pre s
+  line_shown : (k : Kind) (e : Found) (to : ℕ) (pre post : List Found) (s : RawSurface) (kind : RawKind) → IsPlaced k e to pre post → IsCounted pre s
       → holds true k ≡ true → triples_of (of_kind e k) ≡ [] → pairs_of (of_kind e k) ≡ [] → Grows true k e.depth (e.tag_end + 1) e.inside
       → gather (at_rest u ss s (Some (record { at = e.at; kind = kind; vertices = [] }))) (events k e.depth (e.tag_end + 1) no_word e.inside) ≡
       at_rest u ss (added (record (effect_of surface (within k e)) { lines = [] }) s) (Some (record { at = e.at; kind = kind; vertices = flat_map (vertices_of surface) (within k e) }))
   line_shown k e to pre post s kind p c h a b again =
-      let line : LineRead = record { at = e.at; kind = kind; vertices = [] } in
+      let line : RawLine = record { at = e.at; kind = kind; vertices = [] } in
       let x = effect_of surface (within k e) in
       let none = nothing_made (line_of surface) (fits true) line_below (no_line_in surface) k (λ name. fits_below true k name h) e.depth (e.tag_end + 1) e.inside in
       again (pre ++ of_kind e k ∷ []) post s (Some line) h (inner_part k e to pre post p) (λ z. cc) (counted_on pre (of_kind e k) s a b c)
       ∙ ap (λ ls. at_rest u ss (added (record x { lines = ls }) s) (Some (record line { vertices = x.vertices }))) none
 
   -- the line at the end of the lists
-  with_line_last : (k : Kind) (e : Found) (s : SurfaceRead) (l : LineRead) → fits true k ≡ false → filter_map (line_of surface) (within k e) ≡ [] → (s.lines ++ []) ++ l ∷ [] ≡ s.lines ++ (l ∷ filter_map (line_of surface) (within k e))
+  with_line_last : (k : Kind) (e : Found) (s : RawSurface) (l : RawLine) → fits true k ≡ false → filter_map (line_of surface) (within k e) ≡ [] → (s.lines ++ []) ++ l ∷ [] ≡ s.lines ++ (l ∷ filter_map (line_of surface) (within k e))
   with_line_last k e s l f none = ap (λ ls. ls ++ l ∷ []) (append-nil s.lines) ∙ ap (λ ls. s.lines ++ l ∷ ls) (sym none)
 
   no_lines : (k : Kind) (e : Found) → holds true k ≡ true → filter_map (line_of surface) (within k e) ≡ []
   no_lines k e h = nothing_made (line_of surface) (fits true) line_below (no_line_in surface) k (λ name. fits_below true k name h) e.depth (e.tag_end + 1) e.inside
 
-  boundary_shown : (e : Found) (to : ℕ) (pre post : List Found) (s : SurfaceRead) (line : Option LineRead) → IsPlaced Boundary e to pre post → IsCounted pre s → line ≡ None → Grows true Boundary e.depth (e.tag_end + 1) e.inside
+  boundary_shown : (e : Found) (to : ℕ) (pre post : List Found) (s : RawSurface) (line : Option RawLine) → IsPlaced Boundary e to pre post → IsCounted pre s → line ≡ None → Grows true Boundary e.depth (e.tag_end + 1) e.inside
       → closed Boundary (shown Boundary e s line) ≡ expected Boundary e s line
   boundary_shown e to pre post s line p c out again =
       let kind = ring_kind (unwrap_or (value_of (of_kind e Boundary)) []) in
       let x = effect_of surface (within Boundary e) in
-      let l : LineRead = record { at = e.at; kind = kind; vertices = x.vertices } in
+      let l : RawLine = record { at = e.at; kind = kind; vertices = x.vertices } in
       let last = with_line_last Boundary e s l refl (no_lines Boundary e refl) in
       let all = effect_of surface (of_kind e Boundary ∷ within Boundary e) in
       ap (closed Boundary) (line_shown Boundary e to pre post s kind p c refl refl refl again)
       ∙ ap (λ ls. at_rest u ss (record (added x s) { lines = ls }) None) last
       ∙ ap (λ o. at_rest u ss (added all s) (with_vertices all.vertices o)) (sym out)
 
-  breakline_shown : (e : Found) (to : ℕ) (pre post : List Found) (s : SurfaceRead) (line : Option LineRead) → IsPlaced Breakline e to pre post → IsCounted pre s → line ≡ None → Grows true Breakline e.depth (e.tag_end + 1) e.inside
+  breakline_shown : (e : Found) (to : ℕ) (pre post : List Found) (s : RawSurface) (line : Option RawLine) → IsPlaced Breakline e to pre post → IsCounted pre s → line ≡ None → Grows true Breakline e.depth (e.tag_end + 1) e.inside
       → closed Breakline (shown Breakline e s line) ≡ expected Breakline e s line
   breakline_shown e to pre post s line p c out again =
       let x = effect_of surface (within Breakline e) in
-      let l : LineRead = record { at = e.at; kind = raw_kind.Breakline; vertices = x.vertices } in
+      let l : RawLine = record { at = e.at; kind = raw_kind.Breakline; vertices = x.vertices } in
       let last = with_line_last Breakline e s l refl (no_lines Breakline e refl) in
       let all = effect_of surface (of_kind e Breakline ∷ within Breakline e) in
       ap (closed Breakline) (line_shown Breakline e to pre post s raw_kind.Breakline p c refl refl refl again)
@@ -183,7 +187,7 @@ module _ (surface : Found) (u : Option LinearUnit) (ss : List SurfaceRead) where
       ∙ ap (λ o. at_rest u ss (added all s) (with_vertices all.vertices o)) (sym out)
 
   -- an element of a kind
-  element_shown : (in_line : Bool) (k : Kind) (e : Found) (to : ℕ) (pre post : List Found) (s : SurfaceRead) (line : Option LineRead) → fits in_line k ≡ true → IsPlaced k e to pre post → (in_line ≡ false → line ≡ None) → IsCounted pre s
+  element_shown : (in_line : Bool) (k : Kind) (e : Found) (to : ℕ) (pre post : List Found) (s : RawSurface) (line : Option RawLine) → fits in_line k ≡ true → IsPlaced k e to pre post → (in_line ≡ false → line ≡ None) → IsCounted pre s
       → ((within_line : Bool) → Grows within_line k e.depth (e.tag_end + 1) e.inside) → closed k (shown k e s line) ≡ expected k e s line
   element_shown true Outside e to pre post s line f p out c again = cc
   element_shown true Root e to pre post s line f p out c again = cc
@@ -227,7 +231,7 @@ module _ (surface : Found) (u : Option LinearUnit) (ss : List SurfaceRead) where
   element_shown false Skipped e to pre post s line f p out c again = again false (pre ++ of_kind e Skipped ∷ []) post s line refl (inner_part Skipped e to pre post p) out (counted_on pre (of_kind e Skipped) s refl refl c)
 
   -- of content after some elements
-  then_more : (es fs : List Found) (s : SurfaceRead) (line : Option LineRead) → effected u ss (effect_of surface fs) (added (effect_of surface es) s) (with_vertices (effect_of surface es).vertices line) ≡ effected u ss (effect_of surface (es ++ fs)) s line
+  then_more : (es fs : List Found) (s : RawSurface) (line : Option RawLine) → effected u ss (effect_of surface fs) (added (effect_of surface es) s) (with_vertices (effect_of surface es).vertices line) ≡ effected u ss (effect_of surface (es ++ fs)) s line
   then_more es fs s line = effected_joined u ss (effect_of surface es) (effect_of surface fs) s line ∙ ap (λ x. effected u ss x s line) (sym (effect_more surface es fs))
 
   nothing_grows : (in_line : Bool) (k : Kind) (depth at : ℕ) → Grows in_line k depth at Nothing

@@ -1,5 +1,6 @@
 -- The unit and the surfaces of a document, gathered from what it shows, an event after the other.
-use Rattle.std.specs.Prelude.{ℕ, List, [], ◌∷◌, ◌++◌, length, map, Option, Some, None, unwrap_or}
+use Rattle.std.specs.Prelude.{ℕ, List, [], ◌∷◌, ◌++◌, length, Option, Some, None, unwrap_or}
+use Rattle.std.specs.List.{cons_option}
 use Rattle.ground_num.specs.declared.head.LinearUnit.{LinearUnit}
 use Rattle.ground_num.specs.declared.head.LinearUnit.TheVariants.{Meter}
 use Rattle.landxml_read.specs.declared.raw.Triple.{Triple}
@@ -11,20 +12,22 @@ use Rattle.landxml_read.specs.declared.raw.RawVertex.TheVariants as vertex
 use Rattle.landxml_read.specs.declared.kind.Kind.{Kind}
 use Rattle.landxml_read.specs.declared.kind.Kind.TheVariants.{UnitOf, Surface, Boundary, Breakline, Triples, Pairs, Point, Face}
 use Rattle.landxml_read.specs.Words.{Word}
-use Rattle.landxml_read.specs.Lists.{number, ring_kind, LineRead, SurfaceRead, named_unit}
+use Rattle.landxml_read.specs.declared.raw.RawLine.{RawLine}
+use Rattle.landxml_read.specs.declared.raw.RawSurface.{RawSurface}
+use Rattle.landxml_read.specs.Lists.{number, ring_kind, face_in, named_unit}
 use Rattle.landxml_read.specs.Events.{Event, Opened, Read, Ampersand, Quoted, Closed, Opening, Closing}
 
 -- what was gathered: the first unit, the surfaces that are closed, the surface, the line, the face and the words that are open
 pub record Gathered : Type 0 where
   pub unit : Option LinearUnit
-  pub surfaces : List SurfaceRead
-  pub surface : SurfaceRead
-  pub line : Option LineRead
+  pub surfaces : List RawSurface
+  pub surface : RawSurface
+  pub line : Option RawLine
   pub face_at : ℕ
   pub words : List Word
 
 -- no surface
-abbrev pub no_surface : SurfaceRead
+abbrev pub no_surface : RawSurface
 no_surface = record { at = 0; name = []; triples = []; pairs = []; lines = []; ids = []; faces = [] }
 
 -- nothing
@@ -47,7 +50,7 @@ opened Face at value g = record g { face_at = at }
 opened _ at value g = g
 
 -- with further vertices of the open line, where one is open
-abbrev pub with_vertices : List RawVertex → Option LineRead → Option LineRead
+abbrev pub with_vertices : List RawVertex → Option RawLine → Option RawLine
 with_vertices vs None = None
 with_vertices vs (Some l) = Some (record l { vertices = l.vertices ++ vs })
 
@@ -86,7 +89,7 @@ with_text Face w g = record g { words = g.words ++ w ∷ [] }
 with_text _ w g = g
 
 -- with the line, where there is one
-abbrev pub with_line : Option LineRead → SurfaceRead → SurfaceRead
+abbrev pub with_line : Option RawLine → RawSurface → RawSurface
 with_line None s = s
 with_line (Some l) s = record s { lines = s.lines ++ l ∷ [] }
 
@@ -95,7 +98,7 @@ abbrev pub closed : Kind → Gathered → Gathered
 closed Triples g = record g { words = [] }
 closed Pairs g = record g { words = [] }
 closed Point g = record g { words = [] }
-closed Face g = record g { surface = record g.surface { faces = g.surface.faces ++ record { at = g.face_at; ids = map (λ w. w.text) g.words } ∷ [] }; face_at = 0; words = [] }
+closed Face g = record g { surface = record g.surface { faces = g.surface.faces ++ cons_option (face_in g.face_at g.words) [] }; face_at = 0; words = [] }
 closed Boundary g = record g { surface = with_line g.line g.surface; line = None }
 closed Breakline g = record g { surface = with_line g.line g.surface; line = None }
 closed Surface g = record g { surfaces = g.surfaces ++ g.surface ∷ []; surface = no_surface }

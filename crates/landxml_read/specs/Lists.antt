@@ -9,6 +9,10 @@ use Rattle.landxml_read.specs.declared.raw.RawKind.{RawKind}
 use Rattle.landxml_read.specs.declared.raw.RawKind.TheVariants as kind
 use Rattle.landxml_read.specs.declared.raw.RawVertex.{RawVertex}
 use Rattle.landxml_read.specs.declared.raw.RawVertex.TheVariants as vertex
+use Rattle.landxml_read.specs.declared.raw.RawLine.{RawLine}
+use Rattle.landxml_read.specs.declared.raw.RawId.{RawId}
+use Rattle.landxml_read.specs.declared.raw.RawFace.{RawFace}
+use Rattle.landxml_read.specs.declared.raw.RawSurface.{RawSurface}
 use Rattle.landxml_read.specs.Markup.{Document}
 use Rattle.landxml_read.specs.declared.kind.Kind.{Kind}
 use Rattle.landxml_read.specs.declared.kind.Kind.TheVariants.{UnitOf, Surface, Boundary, Breakline, Triples, Pairs, Point, Face}
@@ -77,58 +81,36 @@ line_kind e = of_kind e.kind where
   of_kind Breakline = Some kind.Breakline
   of_kind _ = None
 
--- a line as it is read: its offset, kind and vertices
-pub record LineRead : Type 0 where
-  pub at : ℕ
-  pub kind : RawKind
-  pub vertices : List RawVertex
-
--- an id as it is read: the offset of its P, its bytes, and the index of its triple
-pub record IdRead : Type 0 where
-  pub at : ℕ
-  pub id : List ℕ
-  pub triple : ℕ
-
--- a face as it is read: the offset of its F, and the three ids
-pub record FaceRead : Type 0 where
-  pub at : ℕ
-  pub ids : List (List ℕ)
-
--- a surface as it is read
-pub record SurfaceRead : Type 0 where
-  pub at : ℕ
-  pub name : List ℕ
-  pub triples : List Triple
-  pub pairs : List Pair2
-  pub lines : List LineRead
-  pub ids : List IdRead
-  pub faces : List FaceRead
-
 -- the line that an element of a surface is
-abbrev pub line_of : Found → Found → Option LineRead
+abbrev pub line_of : Found → Found → Option RawLine
 line_of surface e = of_kind (line_kind e) where
-  of_kind : Option RawKind → Option LineRead
+  of_kind : Option RawKind → Option RawLine
   of_kind None = None
   of_kind (Some k) = Some (record { at = e.at; kind = k; vertices = flat_map (vertices_of surface) (inner e) })
 
 -- the id that a P has
-abbrev pub id_of : Found → Found → Option IdRead
+abbrev pub id_of : Found → Found → Option RawId
 id_of surface e = of_kind e.kind where
-  of_kind : Kind → Option IdRead
+  of_kind : Kind → Option RawId
   of_kind Point = Some (record { at = e.at; id = unwrap_or (value_of e) []; triple = length (flat_map triples_of (before e.at surface)) })
   of_kind _ = None
 
--- the face that an F is
-abbrev pub face_of : Found → Option FaceRead
+-- the face of three ids, where there are three
+abbrev pub face_in : ℕ → List Word → Option RawFace
+face_in at (a ∷ b ∷ c ∷ []) = Some (record { at = at; a = a.text; b = b.text; c = c.text })
+face_in at _ = None
+
+-- the face that an F with three ids is
+abbrev pub face_of : Found → Option RawFace
 face_of e = of_kind e.kind where
-  of_kind : Kind → Option FaceRead
-  of_kind Face = Some (record { at = e.at; ids = map (λ w. w.text) (words (parts_of e)) })
+  of_kind : Kind → Option RawFace
+  of_kind Face = face_in e.at (words (parts_of e))
   of_kind _ = None
 
 -- the surface that an element is
-abbrev pub surface_of : Found → Option SurfaceRead
+abbrev pub surface_of : Found → Option RawSurface
 surface_of e = of_kind e.kind where
-  of_kind : Kind → Option SurfaceRead
+  of_kind : Kind → Option RawSurface
   of_kind Surface = Some (record {
     at = e.at;
     name = unwrap_or (value_of e) [];
@@ -141,7 +123,7 @@ surface_of e = of_kind e.kind where
   of_kind _ = None
 
 -- the surfaces of a document
-abbrev pub surfaces_of : Document → List SurfaceRead
+abbrev pub surfaces_of : Document → List RawSurface
 surfaces_of d = filter_map surface_of (document_elements d)
 
 -- the unit that a value names
