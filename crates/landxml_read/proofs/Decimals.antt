@@ -1,5 +1,5 @@
 -- The decimal that a text spells is found by its parts.
-use Rattle.std.proofs.Common.{◌≡◌, ℕ, ◌+◌, ◌<◌, Bool, true, false, ◌==◌, ◌&&◌, ◌||◌, not, cond, nat_lt, List, [], ◌∷◌, ◌++◌, length, Option, None, Some, refl, sym, ◌∙◌, ap, subst, arith, append_assoc, eqb-true, lt-ltb}
+use Rattle.std.proofs.Common.{◌≡◌, ℕ, ◌+◌, ◌<◌, Bool, true, false, ◌==◌, ◌&&◌, ◌||◌, not, cond, nat_lt, List, [], ◌∷◌, ◌++◌, length, Option, None, Some, ℤ, refl, sym, ◌∙◌, ap, subst, arith, append_assoc, eqb-true, lt-ltb}
 use Rattle.std.proofs.lemmas.Bool.Decides.{nat_tests}
 use Rattle.std.proofs.lemmas.List.{take-append-drop}
 use Rattle.std.proofs.lemmas.Str.Parse.{digit_from_value}
@@ -7,13 +7,13 @@ use Rattle.std.specs.Option.{option_map, is_none}
 use Rattle.std.specs.List.{list_all, prefix_len}
 use Rattle.std.specs.Char.{digit_value}
 use Rattle.std.specs.Str.Parse.{AllDigits, IsNumeral, digits_value}
-use Rattle.ground_num.specs.Spelling.{Sign, Bare, Plus, Minus, Exponent, Decimal, IsDecimal, IsDecimalText, IsTooBig, decimal_text, sign_text, fraction_text, exponent_text, fraction_digits, digits_of, magnitude, moved_right, moved_left, rounded, number_limit}
+use Rattle.ground_num.specs.Spelling.{Sign, Bare, Plus, Minus, Exponent, Decimal, IsDecimal, IsDecimalText, IsTooBig, decimal_text, sign_text, fraction_text, exponent_text, fraction_digits, digits_of, magnitude, thousandths, signed, IsTextOf, moved_right, moved_left, rounded, number_limit}
 use Rattle.ground_num.specs.Reading.{is_digit}
-use Rattle.ground_num.specs.Parts.{after_sign, leading_digits, after_digits, pointed_digits, after_point}
+use Rattle.ground_num.specs.Parts.{is_minus, has_minus, after_sign, leading_digits, after_digits, pointed_digits, after_point}
 use Rattle.std.proofs.lemmas.List.Sums.{take_while-cons}
 use Rattle.std.specs.Prelude.{IfSome}
 use Rattle.ground_num.proofs.Parts.{parts_are, take_taken}
-use Rattle.landxml_read.specs.Numbers.{sign_of, fraction_of, exponent_of, decimal_of, is_over, number_cause}
+use Rattle.landxml_read.specs.Numbers.{sign_of, fraction_of, exponent_of, decimal_of, is_over, number_cause, value_or_zero}
 use Rattle.landxml_read.specs.declared.fault.DocCause.TheVariants as cause
 use Rattle.landxml_read.proofs.Bytes.{both, and_is}
 use Rattle.landxml_read.proofs.Running.{if_true, if_false}
@@ -158,11 +158,21 @@ exponent_back (Some x) n = by x.is_upper (first_no_sign x.sign x.digits n)
 abbrev of_parts : List ℕ → Option Exponent → Decimal
 of_parts text x = record { sign = sign_of text; whole = leading_digits (after_sign text); fraction = fraction_of (after_digits (after_sign text)); exponent = x }
 
+minus_found : (text : List ℕ) → is_minus (sign_of text) ≡ has_minus text
+minus_found [] = refl
+minus_found (b ∷ bs) = by (b == 45) (b == 43)
+  where
+    by : (x y : Bool) → is_minus (cond x Minus (cond y Plus Bare)) ≡ x
+    by true y = refl
+    by false true = refl
+    by false false = refl
+
 -- what is found where a text spells a decimal
 record Finds (text : List ℕ) (d : Decimal) : Type 0 where
   decimal : Decimal
   is : decimal_of text ≡ Some decimal
   same : magnitude decimal ≡ magnitude d
+  minus : is_minus decimal.sign ≡ is_minus d.sign
 
 finds : (text : List ℕ) (d : Decimal) → IsDecimal d → text ≡ decimal_text d → Finds text d
 unfolding decimal_of
@@ -178,6 +188,7 @@ finds text d is e =
       is = if_false (length (leading_digits (after_sign text) ++ pointed_digits rest) == 0) None (option_map (of_parts text) (exponent_of (after_point rest))) test
           ∙ ap (λ w. option_map (of_parts text) (exponent_of w)) h.exponent ∙ ap (option_map (of_parts text)) (exponent_back d.exponent is.exponent);
       same = λ i. rounded (digits_value 10 (h.whole i ++ fraction i)) (moved_right d.exponent + 3) (moved_left d.exponent + length (fraction i));
+      minus = minus_found text ∙ h.minus;
     }
 
 spells : (text : List ℕ) (d : Decimal) → decimal_of text ≡ Some d → IsDecimalText text
@@ -230,3 +241,22 @@ cause_none text d never = by (nat_lt number_limit (magnitude d.0)) refl
     by : (t : Bool) → nat_lt number_limit (magnitude d.0) ≡ t → number_cause text ≡ None
     by true e = let more : number_limit < magnitude d.0 = grind (arith, nat_tests, e) in absurd (never (d.0, d.1, d.2, more))
     by false e = cause_of text d.0 d.1 d.2 ∙ if_false (nat_lt number_limit (magnitude d.0)) (Some cause.Big) None e
+
+-- the number that a text spells
+
+signed_by : (s t : Sign) (m : ℕ) → is_minus s ≡ is_minus t → signed s m ≡ signed t m
+signed_by Bare Bare m e = refl
+signed_by Bare Plus m e = refl
+signed_by Bare Minus m e = cc
+signed_by Plus Bare m e = refl
+signed_by Plus Plus m e = refl
+signed_by Plus Minus m e = cc
+signed_by Minus Bare m e = cc
+signed_by Minus Plus m e = cc
+signed_by Minus Minus m e = refl
+
+pub value_is : (number : ℤ) (text : List ℕ) → IsTextOf number text → number ≡ value_or_zero (decimal_of text)
+value_is number text is =
+    let d = is.0 in
+    let f = finds text d is.1 is.2 in
+    is.3 ∙ sym (ap value_or_zero f.is ∙ ap (signed f.decimal.sign) f.same ∙ signed_by f.decimal.sign d.sign (magnitude d) f.minus)
