@@ -14,8 +14,9 @@ use Rattle.landxml_read.specs.declared.raw.RawLine.{RawLine}
 use Rattle.landxml_read.specs.declared.raw.RawId.{RawId}
 use Rattle.landxml_read.specs.declared.raw.RawFace.{RawFace}
 use Rattle.landxml_read.specs.declared.raw.RawSurface.{RawSurface}
-use Rattle.landxml_read.specs.Lists.{triples_of, pairs_of, vertices_of, line_of, id_of, face_of}
-use Rattle.landxml_read.specs.Gather.{Gathered, with_vertices}
+use Rattle.landxml_read.specs.Lists.{triples_of, pairs_of, vertices_of, line_of, id_of, faces_of}
+use Rattle.landxml_read.specs.declared.gather.Gathered.{Gathered}
+use Rattle.landxml_read.specs.Gather.{with_vertices}
 use Rattle.landxml_read.proofs.Nesting.{fits, filter_map_more, flat_more}
 use Rattle.landxml_read.proofs.Gathering.{with_none, with_more, at_rest}
 
@@ -40,7 +41,7 @@ effect_of surface es = record {
   vertices = flat_map (vertices_of surface) es;
   lines = filter_map (line_of surface) es;
   ids = filter_map (id_of surface) es;
-  faces = filter_map face_of es;
+  faces = flat_map faces_of es;
 }
 
 -- one after another
@@ -62,7 +63,7 @@ led_by surface e x = record {
   vertices = vertices_of surface e ++ x.vertices;
   lines = cons_option (line_of surface e) x.lines;
   ids = cons_option (id_of surface e) x.ids;
-  faces = cons_option (face_of e) x.faces;
+  faces = faces_of e ++ x.faces;
 }
 
 -- the surface with it
@@ -86,7 +87,7 @@ effect_more surface es fs =
     let c = flat_more (vertices_of surface) es fs in
     let d = filter_map_more (line_of surface) es fs in
     let e = filter_map_more (id_of surface) es fs in
-    let f = filter_map_more face_of es fs in
+    let f = flat_more faces_of es fs in
     λ i. record { triples = a i; pairs = b i; vertices = c i; lines = d i; ids = e i; faces = f i }
 
 pub effected_joined : (u : Option LinearUnit) (ss : List RawSurface) (x y : Effect) (s : RawSurface) (line : Option RawLine)

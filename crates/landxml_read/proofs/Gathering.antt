@@ -6,17 +6,21 @@ use Rattle.landxml_read.specs.declared.raw.Triple.{Triple}
 use Rattle.landxml_read.specs.declared.raw.Pair2.{Pair2}
 use Rattle.landxml_read.specs.declared.raw.RawVertex.{RawVertex}
 use Rattle.landxml_read.specs.declared.raw.RawVertex.TheVariants as vertex
+use Rattle.landxml_read.specs.declared.gather.Gathered.{Gathered}
+use Rattle.landxml_read.specs.declared.gather.Numbers.TheVariants as numbers
+use Rattle.landxml_read.specs.declared.gather.Ids.TheVariants as ids
 use Rattle.landxml_read.specs.declared.kind.Kind.{Kind}
 use Rattle.landxml_read.specs.declared.kind.Kind.TheVariants.{Triples, Pairs, Point, Face, Skipped}
 use Rattle.landxml_read.specs.Markup.{StartTag, EndTag, Content, Nothing, Byte, Comment, Instruction, CData, Empty, Element, content_text, start_text, empty_text, end_text}
 use Rattle.landxml_read.specs.Elements.{below}
 use Rattle.landxml_read.specs.Words.{Word}
 use Rattle.landxml_read.specs.Faults.{has_text}
+use Rattle.landxml_read.specs.declared.raw.RawFace.{RawFace}
 use Rattle.landxml_read.specs.declared.raw.RawLine.{RawLine}
 use Rattle.landxml_read.specs.declared.raw.RawSurface.{RawSurface}
-use Rattle.landxml_read.specs.Lists.{number, by_three, by_two, counted}
+use Rattle.landxml_read.specs.Lists.{number, by_three, by_two, counted, faces_in}
 use Rattle.landxml_read.specs.Events.{Event, Opened, Ampersand, Closed, opening, closing, empty_events, no_word, finished, word_after, ended_by, ampersands, quotes, read, words_read, events}
-use Rattle.landxml_read.specs.Gather.{Gathered, gathered, opened, with_vertices, to_triple, with_text, closed, gather}
+use Rattle.landxml_read.specs.Gather.{numbered, gathered, opened, with_vertices, to_triple, with_text, closed, gather}
 
 -- events
 
@@ -123,9 +127,13 @@ with_more vs ws (Some l) = ap (λ us. Some (record l { vertices = us })) (append
 
 -- words
 
--- where no word, face or further line is open
+-- where a surface is open, and a line or none
 abbrev pub at_rest : Option LinearUnit → List RawSurface → RawSurface → Option RawLine → Gathered
-at_rest u ss s line = record { unit = u; surfaces = ss; surface = s; line = line; face_at = 0; words = [] }
+at_rest u ss s line = record { unit = u; surfaces = ss; surface = Some s; line = line; face_at = 0; numbers = numbers.Zero; ids = ids.Zero }
+
+-- where no surface is open
+abbrev pub between : Option LinearUnit → List RawSurface → Gathered
+between u ss = record { unit = u; surfaces = ss; surface = None; line = None; face_at = 0; numbers = numbers.Zero; ids = ids.Zero }
 
 -- so many vertices from an index of triples on
 abbrev pub triple_vertices : ℕ → ℕ → List RawVertex
@@ -176,8 +184,20 @@ two_words u ss (a ∷ b ∷ ws) s line =
 -- a point's words are those of a list of triples
 pub point_words : (ws : List Word) (g : Gathered) → reads Point ws g ≡ reads Triples ws g
 point_words [] g = refl
-point_words (w ∷ ws) g = point_words ws (to_triple g.words w g)
+point_words (w ∷ ws) g = point_words ws (to_triple g.numbers (numbered w) g)
 
-pub face_words : (ws first : List Word) (g : Gathered) → reads Face ws (record g { words = first }) ≡ record g { words = first ++ ws }
-face_words [] first g = ap (λ us. record g { words = us }) (sym (append-nil first))
-face_words (w ∷ ws) first g = face_words ws (first ++ w ∷ []) g ∙ ap (λ us. record g { words = us }) (append_assoc first (w ∷ []) ws)
+-- in a face that begins at an offset
+abbrev pub in_face : ℕ → Option LinearUnit → List RawSurface → RawSurface → Option RawLine → Gathered
+in_face at u ss s line = record (at_rest u ss s line) { face_at = at }
+
+no_faces : (u : Option LinearUnit) (ss : List RawSurface) (s : RawSurface) (line : Option RawLine) → at_rest u ss s line ≡ at_rest u ss (record s { faces = s.faces ++ [] }) line
+no_faces u ss s line = let a = sym (append-nil s.faces) in λ i. at_rest u ss (record s { faces = a i }) line
+
+pub face_words : (at : ℕ) (u : Option LinearUnit) (ss : List RawSurface) (ws : List Word) (s : RawSurface) (line : Option RawLine) → closed Face (reads Face ws (in_face at u ss s line)) ≡ at_rest u ss (record s { faces = s.faces ++ faces_in at ws }) line
+face_words at u ss [] s line = no_faces u ss s line
+face_words at u ss (a ∷ []) s line = no_faces u ss s line
+face_words at u ss (a ∷ b ∷ []) s line = no_faces u ss s line
+face_words at u ss (a ∷ b ∷ c ∷ ws) s line =
+    let f : RawFace = record { at = at; a = a.text; b = b.text; c = c.text } in
+    let p = append_assoc s.faces (f ∷ []) (faces_in at ws) in
+    face_words at u ss ws (record s { faces = s.faces ++ f ∷ [] }) line ∙ (λ i. at_rest u ss (record s { faces = p i }) line)

@@ -5,6 +5,7 @@ use Rattle.std.specs.List.{filter_map, cons_option}
 use Rattle.ground_num.specs.declared.head.LinearUnit.{LinearUnit}
 use Rattle.landxml_read.specs.declared.raw.RawKind.{RawKind}
 use Rattle.landxml_read.specs.declared.raw.RawKind.TheVariants as raw_kind
+use Rattle.landxml_read.specs.declared.gather.Gathered.{Gathered}
 use Rattle.landxml_read.specs.declared.kind.Kind.{Kind}
 use Rattle.landxml_read.specs.declared.kind.Kind.TheVariants.{Outside, Root, Units, UnitOf, Surfaces, Surface, SourceData, Boundaries, Boundary, Breaklines, Breakline, DataPoints, Triples, Pairs, Definition, Points, Point, Faces, Face, Skipped}
 use Rattle.landxml_read.specs.Markup.{Content, Nothing, Byte, Comment, Instruction, CData, Empty, Element, content_text, start_text, empty_text, end_text}
@@ -15,14 +16,14 @@ use Rattle.landxml_read.specs.declared.raw.RawLine.{RawLine}
 use Rattle.landxml_read.specs.declared.raw.RawId.{RawId}
 use Rattle.landxml_read.specs.declared.raw.RawFace.{RawFace}
 use Rattle.landxml_read.specs.declared.raw.RawSurface.{RawSurface}
-use Rattle.landxml_read.specs.Lists.{by_three, by_two, before, triples_of, pairs_of, vertices_of, line_of, ring_kind, face_in}
+use Rattle.landxml_read.specs.Lists.{by_three, by_two, before, triples_of, pairs_of, vertices_of, line_of, ring_kind, faces_in}
 use Rattle.landxml_read.specs.Events.{Opened, Closed, opening, closing, empty_events, no_word, word_after, ended_by, ampersands, quotes, read, words_read, events}
-use Rattle.landxml_read.specs.Gather.{Gathered, opened, with_vertices, closed, gather}
+use Rattle.landxml_read.specs.Gather.{opened, with_vertices, closed, gather}
 use Rattle.landxml_read.proofs.ReadValues.{read_values}
 use Rattle.landxml_read.proofs.WordLists.{words_are}
 use Rattle.landxml_read.proofs.Nesting.{holds, fits, fits_below, line_below, no_text, nothing_made}
 use Rattle.landxml_read.proofs.Places.{upto, upto_later, upto_earlier, none_before, all_before, end_of, comment_end, instruction_end, cdata_end, empty_end, element_end, IsPart, narrowed, first_part, second_part, before_is}
-use Rattle.landxml_read.proofs.Gathering.{gather_more, reads, quotes_pass, value_in, text_read, at_rest, triple_vertices, pair_vertices, three_words, two_words, point_words, face_words}
+use Rattle.landxml_read.proofs.Gathering.{gather_more, reads, quotes_pass, value_in, text_read, at_rest, triple_vertices, pair_vertices, three_words, two_words, point_words, in_face, face_words, with_none}
 use Rattle.landxml_read.proofs.Effects.{Effect, no_effect, effect_of, joined, led_by, added, effected, effect_more, effected_joined, effected_nothing, skipped_effect, of_kind, no_line_in, IsCounted, counted_more, counted_on}
 
 -- the words of an element that begins at an offset
@@ -137,11 +138,16 @@ module _ (surface : Found) (u : Option LinearUnit) (ss : List RawSurface) where
 
   face_shown : (e : Found) (s : RawSurface) (line : Option RawLine) → closed Face (shown Face e s line) ≡ expected Face e s line
   face_shown e s line =
-      let face = face_in e.at (words_at e) in
-      let put : Gathered → Gathered = λ g. record g { surface = record g.surface { faces = s.faces ++ cons_option face [] } } in
-      let nothing = sym (effected_nothing u ss s line) in
-      ap (closed Face) (text_shown Face refl (λ name. refl) e (record (at_rest u ss s line) { face_at = e.at }) ∙ face_words (words_at e) [] (record (at_rest u ss s line) { face_at = e.at }))
-      ∙ ap put nothing
+      let fs = faces_in e.at (words_at e) in
+      let a = sym (append-nil s.triples) in
+      let b = sym (append-nil s.pairs) in
+      let d = sym (append-nil s.lines) in
+      let f = sym (append-nil s.ids) in
+      let g = sym (append-nil fs) in
+      let v = sym (with_none line) in
+      ap (closed Face) (text_shown Face refl (λ name. refl) e (in_face e.at u ss s line))
+      ∙ face_words e.at u ss (words_at e) s line
+      ∙ (λ i. at_rest u ss (record s { triples = a i; pairs = b i; lines = d i; ids = f i; faces = s.faces ++ g i }) (v i))
       ∙ ap (λ x. effected u ss x s line) (sym (text_within Face (λ name. refl) e))
 
   -- a line adds its own lists, and itself

@@ -1,6 +1,5 @@
 -- The unit and the surfaces of a document, gathered from what it shows, an event after the other.
 use Rattle.std.specs.Prelude.{ℕ, List, [], ◌∷◌, ◌++◌, length, Option, Some, None, unwrap_or}
-use Rattle.std.specs.List.{cons_option}
 use Rattle.ground_num.specs.declared.head.LinearUnit.{LinearUnit}
 use Rattle.ground_num.specs.declared.head.LinearUnit.TheVariants.{Meter}
 use Rattle.landxml_read.specs.declared.raw.Triple.{Triple}
@@ -9,30 +8,69 @@ use Rattle.landxml_read.specs.declared.raw.RawKind.{RawKind}
 use Rattle.landxml_read.specs.declared.raw.RawKind.TheVariants as kind
 use Rattle.landxml_read.specs.declared.raw.RawVertex.{RawVertex}
 use Rattle.landxml_read.specs.declared.raw.RawVertex.TheVariants as vertex
+use Rattle.landxml_read.specs.declared.gather.Gathered.{Gathered}
+use Rattle.landxml_read.specs.declared.gather.Number.{Number}
+use Rattle.landxml_read.specs.declared.gather.Numbers.{Numbers}
+use Rattle.landxml_read.specs.declared.gather.Numbers.TheVariants as numbers
+use Rattle.landxml_read.specs.declared.gather.Ids.{Ids}
+use Rattle.landxml_read.specs.declared.gather.Ids.TheVariants as ids
 use Rattle.landxml_read.specs.declared.kind.Kind.{Kind}
 use Rattle.landxml_read.specs.declared.kind.Kind.TheVariants.{UnitOf, Surface, Boundary, Breakline, Triples, Pairs, Point, Face}
 use Rattle.landxml_read.specs.Words.{Word}
+use Rattle.landxml_read.specs.declared.raw.RawFace.{RawFace}
 use Rattle.landxml_read.specs.declared.raw.RawLine.{RawLine}
 use Rattle.landxml_read.specs.declared.raw.RawSurface.{RawSurface}
-use Rattle.landxml_read.specs.Lists.{number, ring_kind, face_in, named_unit}
+use Rattle.landxml_read.specs.Lists.{number, ring_kind, named_unit}
 use Rattle.landxml_read.specs.Events.{Event, Opened, Read, Ampersand, Quoted, Closed, Opening, Closing}
-
--- what was gathered: the first unit, the surfaces that are closed, the surface, the line, the face and the words that are open
-pub record Gathered : Type 0 where
-  pub unit : Option LinearUnit
-  pub surfaces : List RawSurface
-  pub surface : RawSurface
-  pub line : Option RawLine
-  pub face_at : ℕ
-  pub words : List Word
-
--- no surface
-abbrev pub no_surface : RawSurface
-no_surface = record { at = 0; name = []; triples = []; pairs = []; lines = []; ids = []; faces = [] }
 
 -- nothing
 abbrev pub nothing : Gathered
-nothing = record { unit = None; surfaces = []; surface = no_surface; line = None; face_at = 0; words = [] }
+nothing = record { unit = None; surfaces = []; surface = None; line = None; face_at = 0; numbers = numbers.Zero; ids = ids.Zero }
+
+-- a surface without anything in it
+abbrev pub bare : ℕ → List ℕ → RawSurface
+bare at name = record { at = at; name = name; triples = []; pairs = []; lines = []; ids = []; faces = [] }
+
+-- the triples of the open surface
+abbrev pub triples_in : Option RawSurface → List Triple
+triples_in None = []
+triples_in (Some s) = s.triples
+
+-- the pairs of the open surface
+abbrev pub pairs_in : Option RawSurface → List Pair2
+pairs_in None = []
+pairs_in (Some s) = s.pairs
+
+-- with one more triple
+abbrev pub put_triple : Triple → Option RawSurface → Option RawSurface
+put_triple t None = None
+put_triple t (Some s) = Some (record s { triples = s.triples ++ t ∷ [] })
+
+-- with one more pair
+abbrev pub put_pair : Pair2 → Option RawSurface → Option RawSurface
+put_pair p None = None
+put_pair p (Some s) = Some (record s { pairs = s.pairs ++ p ∷ [] })
+
+-- with one more id
+abbrev pub put_id : ℕ → List ℕ → Option RawSurface → Option RawSurface
+put_id at id None = None
+put_id at id (Some s) = Some (record s { ids = s.ids ++ record { at = at; id = id; triple = length s.triples } ∷ [] })
+
+-- with one more face
+abbrev pub put_face : RawFace → Option RawSurface → Option RawSurface
+put_face f None = None
+put_face f (Some s) = Some (record s { faces = s.faces ++ f ∷ [] })
+
+-- with the line, where there is one
+abbrev pub put_line : Option RawLine → Option RawSurface → Option RawSurface
+put_line line None = None
+put_line None (Some s) = Some s
+put_line (Some l) (Some s) = Some (record s { lines = s.lines ++ l ∷ [] })
+
+-- the surfaces with the one that was open
+abbrev pub put_surface : Option RawSurface → List RawSurface → List RawSurface
+put_surface None ss = ss
+put_surface (Some s) ss = ss ++ s ∷ []
 
 -- the first unit stays
 abbrev pub first_unit : Option LinearUnit → LinearUnit → Option LinearUnit
@@ -42,10 +80,10 @@ first_unit (Some first) unit = Some first
 -- with a tag's unit, surface, line, id or face
 abbrev pub opened : Kind → ℕ → List ℕ → Gathered → Gathered
 opened UnitOf at value g = record g { unit = first_unit g.unit (named_unit value) }
-opened Surface at value g = record g { surface = record no_surface { at = at; name = value } }
+opened Surface at value g = record g { surface = Some (bare at value) }
 opened Boundary at value g = record g { line = Some (record { at = at; kind = ring_kind value; vertices = [] }) }
 opened Breakline at value g = record g { line = Some (record { at = at; kind = kind.Breakline; vertices = [] }) }
-opened Point at value g = record g { surface = record g.surface { ids = g.surface.ids ++ record { at = at; id = value; triple = length g.surface.triples } ∷ [] } }
+opened Point at value g = record g { surface = put_id at value g.surface }
 opened Face at value g = record g { face_at = at }
 opened _ at value g = g
 
@@ -54,54 +92,61 @@ abbrev pub with_vertices : List RawVertex → Option RawLine → Option RawLine
 with_vertices vs None = None
 with_vertices vs (Some l) = Some (record l { vertices = l.vertices ++ vs })
 
--- with the triple of three words
-abbrev pub with_triple : Word → Word → Word → Gathered → Gathered
+-- the number of a word, with its offset
+abbrev pub numbered : Word → Number
+numbered w = record { at = w.at; value = number w }
+
+-- with the triple of three numbers
+abbrev pub with_triple : Number → Number → Number → Gathered → Gathered
 with_triple a b c g = record g {
-  surface = record g.surface { triples = g.surface.triples ++ record { n = number a; e = number b; z = number c; n_at = a.at; e_at = b.at; z_at = c.at } ∷ [] };
-  line = with_vertices (vertex.Triple (length g.surface.triples) ∷ []) g.line;
-  words = [];
+  surface = put_triple (record { n = a.value; e = b.value; z = c.value; n_at = a.at; e_at = b.at; z_at = c.at }) g.surface;
+  line = with_vertices (vertex.Triple (length (triples_in g.surface)) ∷ []) g.line;
+  numbers = numbers.Zero;
 }
 
--- with the pair of two words
-abbrev pub with_pair : Word → Word → Gathered → Gathered
+-- with the pair of two numbers
+abbrev pub with_pair : Number → Number → Gathered → Gathered
 with_pair a b g = record g {
-  surface = record g.surface { pairs = g.surface.pairs ++ record { n = number a; e = number b; at = a.at } ∷ [] };
-  line = with_vertices (vertex.Pair (length g.surface.pairs) ∷ []) g.line;
-  words = [];
+  surface = put_pair (record { n = a.value; e = b.value; at = a.at }) g.surface;
+  line = with_vertices (vertex.Pair (length (pairs_in g.surface)) ∷ []) g.line;
+  numbers = numbers.Zero;
 }
 
--- with one more word after those of an open triple
-abbrev pub to_triple : List Word → Word → Gathered → Gathered
-to_triple (a ∷ b ∷ []) w g = with_triple a b w g
-to_triple words w g = record g { words = words ++ w ∷ [] }
+-- with one more number after those of an open triple
+abbrev pub to_triple : Numbers → Number → Gathered → Gathered
+to_triple numbers.Zero x g = record g { numbers = numbers.One x }
+to_triple (numbers.One a) x g = record g { numbers = numbers.Two a x }
+to_triple (numbers.Two a b) x g = with_triple a b x g
 
--- with one more word after those of an open pair
-abbrev pub to_pair : List Word → Word → Gathered → Gathered
-to_pair (a ∷ []) w g = with_pair a w g
-to_pair words w g = record g { words = words ++ w ∷ [] }
+-- with one more number after that of an open pair
+abbrev pub to_pair : Numbers → Number → Gathered → Gathered
+to_pair numbers.Zero x g = record g { numbers = numbers.One x }
+to_pair (numbers.One a) x g = with_pair a x g
+to_pair (numbers.Two a b) x g = g
+
+-- with one more id after those of an open face
+abbrev pub to_face : Ids → List ℕ → Gathered → Gathered
+to_face ids.Zero id g = record g { ids = ids.One id }
+to_face (ids.One a) id g = record g { ids = ids.Two a id }
+to_face (ids.Two a b) id g = record g { surface = put_face (record { at = g.face_at; a = a; b = b; c = id }) g.surface; ids = ids.Zero }
 
 -- with one more word of an element of a kind
 abbrev pub with_text : Kind → Word → Gathered → Gathered
-with_text Triples w g = to_triple g.words w g
-with_text Point w g = to_triple g.words w g
-with_text Pairs w g = to_pair g.words w g
-with_text Face w g = record g { words = g.words ++ w ∷ [] }
+with_text Triples w g = to_triple g.numbers (numbered w) g
+with_text Point w g = to_triple g.numbers (numbered w) g
+with_text Pairs w g = to_pair g.numbers (numbered w) g
+with_text Face w g = to_face g.ids w.text g
 with_text _ w g = g
-
--- with the line, where there is one
-abbrev pub with_line : Option RawLine → RawSurface → RawSurface
-with_line None s = s
-with_line (Some l) s = record s { lines = s.lines ++ l ∷ [] }
 
 -- at the end of an element of a kind
 abbrev pub closed : Kind → Gathered → Gathered
-closed Triples g = record g { words = [] }
-closed Pairs g = record g { words = [] }
-closed Point g = record g { words = [] }
-closed Face g = record g { surface = record g.surface { faces = g.surface.faces ++ cons_option (face_in g.face_at g.words) [] }; face_at = 0; words = [] }
-closed Boundary g = record g { surface = with_line g.line g.surface; line = None }
-closed Breakline g = record g { surface = with_line g.line g.surface; line = None }
-closed Surface g = record g { surfaces = g.surfaces ++ g.surface ∷ []; surface = no_surface }
+closed Triples g = record g { numbers = numbers.Zero }
+closed Pairs g = record g { numbers = numbers.Zero }
+closed Point g = record g { numbers = numbers.Zero }
+closed Face g = record g { face_at = 0; ids = ids.Zero }
+closed Boundary g = record g { surface = put_line g.line g.surface; line = None }
+closed Breakline g = record g { surface = put_line g.line g.surface; line = None }
+closed Surface g = record g { surfaces = put_surface g.surface g.surfaces; surface = None }
 closed _ g = g
 
 -- after an event

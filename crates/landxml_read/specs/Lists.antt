@@ -95,17 +95,17 @@ id_of surface e = of_kind e.kind where
   of_kind Point = Some (record { at = e.at; id = unwrap_or (value_of e) []; triple = length (flat_map triples_of (before e.at surface)) })
   of_kind _ = None
 
--- the face of three ids, where there are three
-abbrev pub face_in : ℕ → List Word → Option RawFace
-face_in at (a ∷ b ∷ c ∷ []) = Some (record { at = at; a = a.text; b = b.text; c = c.text })
-face_in at _ = None
+-- ids by threes
+abbrev pub faces_in : ℕ → List Word → List RawFace
+faces_in at (a ∷ b ∷ c ∷ ws) = record { at = at; a = a.text; b = b.text; c = c.text } ∷ faces_in at ws
+faces_in at _ = []
 
--- the face that an F with three ids is
-abbrev pub face_of : Found → Option RawFace
-face_of e = of_kind e.kind where
-  of_kind : Kind → Option RawFace
-  of_kind Face = face_in e.at (words (parts_of e))
-  of_kind _ = None
+-- the face that an F is
+abbrev pub faces_of : Found → List RawFace
+faces_of e = of_kind e.kind where
+  of_kind : Kind → List RawFace
+  of_kind Face = faces_in e.at (words (parts_of e))
+  of_kind _ = []
 
 -- the surface that an element is
 abbrev pub surface_of : Found → Option RawSurface
@@ -118,7 +118,7 @@ surface_of e = of_kind e.kind where
     pairs = flat_map pairs_of (inner e);
     lines = filter_map (line_of e) (inner e);
     ids = filter_map (id_of e) (inner e);
-    faces = filter_map face_of (inner e);
+    faces = flat_map faces_of (inner e);
   })
   of_kind _ = None
 

@@ -8,6 +8,7 @@ mod byte;
 mod decode;
 mod element;
 mod fault;
+mod gather;
 mod kind;
 mod level;
 mod list;
