@@ -5,6 +5,7 @@
 mod act;
 mod buffer;
 mod byte;
+mod collect;
 mod decode;
 mod element;
 mod fault;

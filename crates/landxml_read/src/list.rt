@@ -1,8 +1,9 @@
 //! Lists that a contract compares with a list of the definitions.
 
-ghost use Rattle.std.specs.Prelude.{◌≡◌, ◌↔◌, IsTrue, length, slice_get};
+ghost use Rattle.std.specs.Prelude.{◌≡◌, ◌↔◌, ◌++◌, ◌∷◌, [], IsTrue, OnOk, length, slice_get};
 ghost use Rattle.std.specs.Option.{option_copied};
 
+use std::alloc::{AllocError, Global};
 use std::marker::Model;
 
 /// A list of values in document order, in one allocation: contracts see the list alone.
@@ -20,6 +21,15 @@ impl<T> Model for RawList<T> {
 }
 
 impl<T> RawList<T> {
+    /// No value, without memory.
+    pub(crate) fn new(alloc: Global) -> RawList<T>
+        ensures { result ≡ [] }
+    {
+        RawList {
+            items: Vec::new(alloc),
+        }
+    }
+
     /// The vector's values. Takes no memory.
     pub fn from_vec(items: Vec<T>) -> RawList<T>
         ensures items { result ≡ items.items }
@@ -54,5 +64,15 @@ impl<T> RawList<T> {
         ensures value { option_copied result ≡ slice_get self.now index }
     {
         self.items.get(index)
+    }
+}
+
+impl<T: Drop> RawList<T> {
+    /// One more value, at the end.
+    pub(crate) fn push(&mut self, value: T) -> Result<(), AllocError>
+        ensures { OnOk result (self.new ≡ self.old ++ value ∷ []) }
+    {
+        self.items.push(value)?;
+        Ok(())
     }
 }
