@@ -11,8 +11,9 @@ use Rattle.landxml_read.specs.Elements.{Found, below, elements, empty_found, who
 use Rattle.landxml_read.specs.Faults.{has_text, read_name, value_of, document_elements}
 use Rattle.landxml_read.specs.declared.raw.RawSurface.{RawSurface}
 use Rattle.landxml_read.specs.Lists.{inner, surface_of, surfaces_of, unit_in, unit_of, first_or_meter}
-use Rattle.landxml_read.specs.Events.{Opened, Closed, closing, no_word, word_after, ended_by, ampersands, read, events, document_events}
-use Rattle.landxml_read.specs.Gather.{bare, nothing, first_unit, opened, closed, gather, unit_or_meter}
+use Rattle.landxml_read.specs.Events.{Opened, Closed, closing, Event, no_word, word_after, ended_by, ampersands, read, events, document_events}
+use Rattle.landxml_read.specs.Gather.{bare, nothing, first_unit, opened, closed, gathered, gather, gathered_of, unit_or_meter}
+use Rattle.landxml_read.specs.Tokens.{pushed}
 use Rattle.landxml_read.proofs.ReadValues.{read_values}
 use Rattle.landxml_read.proofs.Nesting.{fits, fits_below, surface_below, holds_surfaces, fits_outside, outside_below, no_text_outside, nothing_made, filter_map_more}
 use Rattle.landxml_read.proofs.Places.{end_of, IsPart}
@@ -203,3 +204,15 @@ unit_gathered d = ap (λ g. unit_or_meter g.unit) (document_gathered d) ∙ firs
 -- what a document's events gather has its surfaces
 pub surfaces_gathered : (d : Document) → (gather nothing (document_events d)).surfaces ≡ surfaces_of d
 surfaces_gathered d = ap (λ g. g.surfaces) (document_gathered d)
+
+pushed_gathered : (es told : List Event) → gathered_of (pushed es told) ≡ gather (gathered_of told) es
+pushed_gathered [] told = refl
+pushed_gathered (e ∷ es) told = pushed_gathered es (e ∷ told)
+
+-- what is gathered of all that a document showed has its unit
+pub unit_told : (d : Document) → unit_or_meter (gathered_of (pushed (document_events d) [])).unit ≡ unit_of d
+unit_told d = ap (λ g. unit_or_meter g.unit) (pushed_gathered (document_events d) []) ∙ unit_gathered d
+
+-- and its surfaces
+pub surfaces_told : (d : Document) → (gathered_of (pushed (document_events d) [])).surfaces ≡ surfaces_of d
+surfaces_told d = ap (λ g. g.surfaces) (pushed_gathered (document_events d) []) ∙ surfaces_gathered d

@@ -56,6 +56,14 @@ ampersands_pass has at b es g = by (has && b == 38)
     by true = refl
     by false = refl
 
+-- of what a byte of text shows only the word is gathered
+pub letter_pass : (k : Kind) (has : Bool) (at b : ℕ) (w : Word) (g : Gathered) → gather g (read k at (ended_by has b w) ++ ampersands has at b) ≡ gather g (read k at (ended_by has b w))
+letter_pass k has at b w g = gather_more g (read k at (ended_by has b w)) (ampersands has at b) ∙ by (has && b == 38) (gather g (read k at (ended_by has b w)))
+  where
+    by : (t : Bool) (h : Gathered) → gather h (cond t (Ampersand at ∷ []) []) ≡ h
+    by true h = refl
+    by false h = refl
+
 -- the value of a tag's read attribute, or none
 abbrev pub value_in : Kind → ℕ → ℕ → StartTag → ℕ → List ℕ
 value_in k depth at tag shown = unwrap_or (opening k depth at tag shown).values.first []

@@ -1,5 +1,5 @@
 -- The unit and the surfaces of a document, gathered from what it shows, an event after the other.
-use Rattle.std.specs.Prelude.{ℕ, List, [], ◌∷◌, ◌++◌, length, Option, Some, None, unwrap_or}
+use Rattle.std.specs.Prelude.{◌≡◌, ◌<◌, ◌^◌, ◌==◌, ◌&&◌, true, false, ℕ, List, [], ◌∷◌, ◌++◌, length, Option, Some, None, unwrap_or}
 use Rattle.ground_num.specs.declared.head.LinearUnit.{LinearUnit}
 use Rattle.ground_num.specs.declared.head.LinearUnit.TheVariants.{Meter}
 use Rattle.landxml_read.specs.declared.raw.Triple.{Triple}
@@ -16,6 +16,14 @@ use Rattle.landxml_read.specs.declared.gather.Ids.{Ids}
 use Rattle.landxml_read.specs.declared.gather.Ids.TheVariants as ids
 use Rattle.landxml_read.specs.declared.kind.Kind.{Kind}
 use Rattle.landxml_read.specs.declared.kind.Kind.TheVariants.{UnitOf, Surface, Boundary, Breakline, Triples, Pairs, Point, Face}
+use Rattle.ground_num.specs.Names.{IsName}
+use Rattle.landxml_read.specs.declared.tokens.Tokens.{Tokens}
+use Rattle.landxml_read.specs.Numbers.{number_cause}
+use Rattle.landxml_read.specs.declared.act.Act.{Act}
+use Rattle.landxml_read.specs.declared.act.Act.TheVariants.{Pass, Letter, Less, BeginName, Name, BeginAttribute, Attribute, BeginValue, Value, EndValue, Opens, Passes, Closes, Quotes}
+use Rattle.landxml_read.specs.Markup.{is_white}
+use Rattle.landxml_read.specs.Faults.{has_text, has_numbers}
+use Rattle.landxml_read.specs.Tokens.{kind_in}
 use Rattle.landxml_read.specs.Words.{Word}
 use Rattle.landxml_read.specs.declared.raw.RawFace.{RawFace}
 use Rattle.landxml_read.specs.declared.raw.RawLine.{RawLine}
@@ -162,6 +170,42 @@ abbrev pub gather : Gathered → List Event → Gathered
 gather g [] = g
 gather g (e ∷ es) = gather (gathered e g) es
 
+-- of what was shown, the latest first
+abbrev pub gathered_of : List Event → Gathered
+gathered_of [] = nothing
+gathered_of (e ∷ told) = gathered e (gathered_of told)
+
 -- the first unit, or the meter
 abbrev pub unit_or_meter : Option LinearUnit → LinearUnit
 unit_or_meter unit = unwrap_or unit Meter
+
+-- the first value of the read attribute of the open tag, or none
+abbrev pub first_value : Tokens → List ℕ
+first_value t = unwrap_or t.values.first []
+
+-- the open word, where one is open, is a name, and a number where it must be one
+pub record HoldsWord (t : Tokens) : Type 0 where
+  pub name : (length t.word == 0) ≡ false → IsName t.word
+  pub number : (length t.word == 0) ≡ false → has_numbers (kind_in t.stack) ≡ true → number_cause t.word ≡ None
+
+-- what a byte shows can be gathered: a word that it ends, or the value of a tag
+abbrev pub CanGather : Act → ℕ → Tokens → Type 0
+CanGather Letter b t = (has_text (kind_in t.stack) && is_white b) ≡ true → HoldsWord t
+CanGather Less b t = HoldsWord t
+CanGather Opens b t = IsName (first_value t)
+CanGather Passes b t = IsName (first_value t)
+CanGather Pass b t = Unit {0}
+CanGather BeginName b t = Unit {0}
+CanGather Name b t = Unit {0}
+CanGather BeginAttribute b t = Unit {0}
+CanGather Attribute b t = Unit {0}
+CanGather BeginValue b t = Unit {0}
+CanGather Value b t = Unit {0}
+CanGather EndValue b t = Unit {0}
+CanGather Closes b t = Unit {0}
+CanGather Quotes b t = Unit {0}
+
+-- the open surface has room for indices of 32 bits
+pub record HasRoom (g : Gathered) : Type 0 where
+  pub triples : length (triples_in g.surface) < 2 ^ 32
+  pub pairs : length (pairs_in g.surface) < 2 ^ 32

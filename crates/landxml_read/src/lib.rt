@@ -26,6 +26,7 @@ mod tag;
 #[cfg(test)]
 mod tests;
 mod tokens;
+mod told;
 mod utf8;
 mod values;
 mod verdict;
