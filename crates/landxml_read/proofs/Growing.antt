@@ -24,6 +24,7 @@ use Rattle.landxml_read.proofs.WordLists.{words_are}
 use Rattle.landxml_read.proofs.Nesting.{holds, fits, fits_below, line_below, no_text, nothing_made}
 use Rattle.landxml_read.proofs.Places.{upto, upto_later, upto_earlier, none_before, all_before, end_of, comment_end, instruction_end, cdata_end, empty_end, element_end, IsPart, narrowed, first_part, second_part, before_is}
 use Rattle.landxml_read.proofs.Gathering.{gather_more, reads, quotes_pass, value_in, text_read, at_rest, triple_vertices, pair_vertices, three_words, two_words, point_words, in_face, face_words, with_none}
+use Rattle.landxml_read.proofs.Placed.{within, IsPlaced, inner_part, triples_before, pairs_before}
 use Rattle.landxml_read.proofs.Effects.{Effect, no_effect, effect_of, joined, led_by, added, effected, effect_more, effected_joined, effected_nothing, skipped_effect, of_kind, no_line_in, IsCounted, counted_more, counted_on}
 
 -- the words of an element that begins at an offset
@@ -38,16 +39,6 @@ module _ (surface : Found) (u : Option LinearUnit) (ss : List RawSurface) where
       → (in_line ≡ false → line ≡ None) → IsCounted pre s
       → gather (at_rest u ss s line) (events k depth at no_word x) ≡ effected u ss (effect_of surface (elements k depth at x)) s line
 
-  -- the elements of an element of a kind
-  abbrev within : Kind → Found → List Found
-  within k e = elements k e.depth (e.tag_end + 1) e.inside
-
-  -- an element and its elements stand between offsets
-  pub record IsPlaced (k : Kind) (e : Found) (to : ℕ) (pre post : List Found) : Type 0 where
-    pub part : IsPart surface e.at to (of_kind e k ∷ within k e) pre post
-    pub tag : e.at ≤ e.tag_end
-    pub end : end_of (e.tag_end + 1) e.inside ≤ to
-
   -- after the tag of an element and what stands in it
   abbrev shown : Kind → Found → RawSurface → Option RawLine → Gathered
   shown k e s line = gather (opened k e.at (unwrap_or (value_of (of_kind e k)) []) (at_rest u ss s line)) (events k e.depth (e.tag_end + 1) no_word e.inside)
@@ -55,28 +46,6 @@ module _ (surface : Found) (u : Option LinearUnit) (ss : List RawSurface) where
   -- what is expected of it
   abbrev expected : Kind → Found → RawSurface → Option RawLine → Gathered
   expected k e s line = effected u ss (effect_of surface (of_kind e k ∷ within k e)) s line
-
-  -- its elements alone
-  inner_part : (k : Kind) (e : Found) (to : ℕ) (pre post : List Found) → IsPlaced k e to pre post → IsPart surface (e.tag_end + 1) (end_of (e.tag_end + 1) e.inside) (within k e) (pre ++ of_kind e k ∷ []) post
-  inner_part k e to pre post p =
-      let a = p.tag in
-      let whole = second_part surface e.at (e.tag_end + 1) to (of_kind e k ∷ []) (within k e) pre post (omega (arith, a)) (λ offset h. upto_earlier offset (of_kind e k) [] (omega (arith, a, h))) p.part in
-      narrowed surface (e.tag_end + 1) to (e.tag_end + 1) (end_of (e.tag_end + 1) e.inside) (within k e) (pre ++ of_kind e k ∷ []) post (omega arith) p.end whole
-
-  -- the elements before it
-  before_it : (k : Kind) (e : Found) (to : ℕ) (pre post : List Found) → IsPlaced k e to pre post → before e.at surface ≡ pre
-  before_it k e to pre post p =
-      let a = p.tag in
-      let b = p.end in
-      before_is surface e.at to (of_kind e k ∷ within k e) pre post (omega (arith, a, b)) (upto_later e.at (of_kind e k) (within k e) (omega arith) ∙ none_before k e.depth (e.tag_end + 1) e.inside e.at (omega (arith, a))) p.part
-
-  -- how many triples are before it
-  triples_before : (k : Kind) (e : Found) (to : ℕ) (pre post : List Found) (s : RawSurface) → IsPlaced k e to pre post → IsCounted pre s → length (flat_map triples_of (before e.at surface)) ≡ length s.triples
-  triples_before k e to pre post s p c = ap (λ xs. length (flat_map triples_of xs)) (before_it k e to pre post p) ∙ sym c.triples
-
-  -- how many pairs are before it
-  pairs_before : (k : Kind) (e : Found) (to : ℕ) (pre post : List Found) (s : RawSurface) → IsPlaced k e to pre post → IsCounted pre s → length (flat_map pairs_of (before e.at surface)) ≡ length s.pairs
-  pairs_before k e to pre post s p c = ap (λ xs. length (flat_map pairs_of xs)) (before_it k e to pre post p) ∙ sym c.pairs
 
   -- the words of an element whose text is read
   text_shown : (k : Kind) → has_text k ≡ true → ((name : List ℕ) → below k name ≡ Skipped) → (e : Found) (g : Gathered) → gather g (events k e.depth (e.tag_end + 1) no_word e.inside) ≡ reads k (words_at e) g
@@ -86,7 +55,7 @@ module _ (surface : Found) (u : Option LinearUnit) (ss : List RawSurface) where
   text_within : (k : Kind) → ((name : List ℕ) → below k name ≡ Skipped) → (e : Found) → effect_of surface (of_kind e k ∷ within k e) ≡ led_by surface (of_kind e k) no_effect
   text_within k none e = ap (led_by surface (of_kind e k)) (skipped_effect surface k none e.depth (e.tag_end + 1) e.inside)
 
-  triples_shown : (e : Found) (to : ℕ) (pre post : List Found) (s : RawSurface) (line : Option RawLine) → IsPlaced Triples e to pre post → IsCounted pre s → closed Triples (shown Triples e s line) ≡ expected Triples e s line
+  triples_shown : (e : Found) (to : ℕ) (pre post : List Found) (s : RawSurface) (line : Option RawLine) → IsPlaced surface Triples e to pre post → IsCounted pre s → closed Triples (shown Triples e s line) ≡ expected Triples e s line
   triples_shown e to pre post s line p c =
       let ts = by_three (words_at e) in
       let a = sym (append-nil ts) in
@@ -94,7 +63,7 @@ module _ (surface : Found) (u : Option LinearUnit) (ss : List RawSurface) where
       let d = sym (append-nil s.lines) in
       let f = sym (append-nil s.ids) in
       let g = sym (append-nil s.faces) in
-      let v = ap (λ n. triple_vertices n (length ts)) (sym (triples_before Triples e to pre post s p c)) in
+      let v = ap (λ n. triple_vertices n (length ts)) (sym (triples_before surface Triples e to pre post s p c)) in
       let vs = triple_vertices (length (flat_map triples_of (before e.at surface))) (length ts) in
       let w = v ∙ sym (append-nil vs) ∙ ap (λ xs. xs ++ []) (sym (append-nil vs)) in
       ap (closed Triples) (text_shown Triples refl (λ name. refl) e (at_rest u ss s line))
@@ -102,7 +71,7 @@ module _ (surface : Found) (u : Option LinearUnit) (ss : List RawSurface) where
       ∙ (λ i. at_rest u ss (record s { triples = s.triples ++ a i; pairs = b i; lines = d i; ids = f i; faces = g i }) (with_vertices (w i) line))
       ∙ ap (λ x. effected u ss x s line) (sym (text_within Triples (λ name. refl) e))
 
-  pairs_shown : (e : Found) (to : ℕ) (pre post : List Found) (s : RawSurface) (line : Option RawLine) → IsPlaced Pairs e to pre post → IsCounted pre s → closed Pairs (shown Pairs e s line) ≡ expected Pairs e s line
+  pairs_shown : (e : Found) (to : ℕ) (pre post : List Found) (s : RawSurface) (line : Option RawLine) → IsPlaced surface Pairs e to pre post → IsCounted pre s → closed Pairs (shown Pairs e s line) ≡ expected Pairs e s line
   pairs_shown e to pre post s line p c =
       let ts = by_two (words_at e) in
       let a = sym (append-nil ts) in
@@ -110,7 +79,7 @@ module _ (surface : Found) (u : Option LinearUnit) (ss : List RawSurface) where
       let d = sym (append-nil s.lines) in
       let f = sym (append-nil s.ids) in
       let g = sym (append-nil s.faces) in
-      let v = ap (λ n. pair_vertices n (length ts)) (sym (pairs_before Pairs e to pre post s p c)) in
+      let v = ap (λ n. pair_vertices n (length ts)) (sym (pairs_before surface Pairs e to pre post s p c)) in
       let vs = pair_vertices (length (flat_map pairs_of (before e.at surface))) (length ts) in
       let w = v ∙ sym (append-nil vs) in
       ap (closed Pairs) (text_shown Pairs refl (λ name. refl) e (at_rest u ss s line))
@@ -118,12 +87,12 @@ module _ (surface : Found) (u : Option LinearUnit) (ss : List RawSurface) where
       ∙ (λ i. at_rest u ss (record s { pairs = s.pairs ++ a i; triples = b i; lines = d i; ids = f i; faces = g i }) (with_vertices (w i) line))
       ∙ ap (λ x. effected u ss x s line) (sym (text_within Pairs (λ name. refl) e))
 
-  point_shown : (e : Found) (to : ℕ) (pre post : List Found) (s : RawSurface) (line : Option RawLine) → IsPlaced Point e to pre post → IsCounted pre s → closed Point (shown Point e s line) ≡ expected Point e s line
+  point_shown : (e : Found) (to : ℕ) (pre post : List Found) (s : RawSurface) (line : Option RawLine) → IsPlaced surface Point e to pre post → IsCounted pre s → closed Point (shown Point e s line) ≡ expected Point e s line
   point_shown e to pre post s line p c =
       let ts = by_three (words_at e) in
       let id : ℕ → RawId = λ n. record { at = e.at; id = unwrap_or (value_of (of_kind e Point)) []; triple = n } in
       let with_id = record s { ids = s.ids ++ id (length s.triples) ∷ [] } in
-      let n = sym (triples_before Point e to pre post s p c) in
+      let n = sym (triples_before surface Point e to pre post s p c) in
       let a = sym (append-nil ts) in
       let b = sym (append-nil s.pairs) in
       let d = sym (append-nil s.lines) in
@@ -151,7 +120,7 @@ module _ (surface : Found) (u : Option LinearUnit) (ss : List RawSurface) where
       ∙ ap (λ x. effected u ss x s line) (sym (text_within Face (λ name. refl) e))
 
   -- a line adds its own lists, and itself
-  line_shown : (k : Kind) (e : Found) (to : ℕ) (pre post : List Found) (s : RawSurface) (kind : RawKind) → IsPlaced k e to pre post → IsCounted pre s
+  line_shown : (k : Kind) (e : Found) (to : ℕ) (pre post : List Found) (s : RawSurface) (kind : RawKind) → IsPlaced surface k e to pre post → IsCounted pre s
       → holds true k ≡ true → triples_of (of_kind e k) ≡ [] → pairs_of (of_kind e k) ≡ [] → Grows true k e.depth (e.tag_end + 1) e.inside
       → gather (at_rest u ss s (Some (record { at = e.at; kind = kind; vertices = [] }))) (events k e.depth (e.tag_end + 1) no_word e.inside) ≡
       at_rest u ss (added (record (effect_of surface (within k e)) { lines = [] }) s) (Some (record { at = e.at; kind = kind; vertices = flat_map (vertices_of surface) (within k e) }))
@@ -159,7 +128,7 @@ module _ (surface : Found) (u : Option LinearUnit) (ss : List RawSurface) where
       let line : RawLine = record { at = e.at; kind = kind; vertices = [] } in
       let x = effect_of surface (within k e) in
       let none = nothing_made (line_of surface) (fits true) line_below (no_line_in surface) k (λ name. fits_below true k name h) e.depth (e.tag_end + 1) e.inside in
-      again (pre ++ of_kind e k ∷ []) post s (Some line) h (inner_part k e to pre post p) (λ z. cc) (counted_on pre (of_kind e k) s a b c)
+      again (pre ++ of_kind e k ∷ []) post s (Some line) h (inner_part surface k e to pre post p) (λ z. cc) (counted_on pre (of_kind e k) s a b c)
       ∙ ap (λ ls. at_rest u ss (added (record x { lines = ls }) s) (Some (record line { vertices = x.vertices }))) none
 
   -- the line at the end of the lists
@@ -169,7 +138,7 @@ module _ (surface : Found) (u : Option LinearUnit) (ss : List RawSurface) where
   no_lines : (k : Kind) (e : Found) → holds true k ≡ true → filter_map (line_of surface) (within k e) ≡ []
   no_lines k e h = nothing_made (line_of surface) (fits true) line_below (no_line_in surface) k (λ name. fits_below true k name h) e.depth (e.tag_end + 1) e.inside
 
-  boundary_shown : (e : Found) (to : ℕ) (pre post : List Found) (s : RawSurface) (line : Option RawLine) → IsPlaced Boundary e to pre post → IsCounted pre s → line ≡ None → Grows true Boundary e.depth (e.tag_end + 1) e.inside
+  boundary_shown : (e : Found) (to : ℕ) (pre post : List Found) (s : RawSurface) (line : Option RawLine) → IsPlaced surface Boundary e to pre post → IsCounted pre s → line ≡ None → Grows true Boundary e.depth (e.tag_end + 1) e.inside
       → closed Boundary (shown Boundary e s line) ≡ expected Boundary e s line
   boundary_shown e to pre post s line p c out again =
       let kind = ring_kind (unwrap_or (value_of (of_kind e Boundary)) []) in
@@ -181,7 +150,7 @@ module _ (surface : Found) (u : Option LinearUnit) (ss : List RawSurface) where
       ∙ ap (λ ls. at_rest u ss (record (added x s) { lines = ls }) None) last
       ∙ ap (λ o. at_rest u ss (added all s) (with_vertices all.vertices o)) (sym out)
 
-  breakline_shown : (e : Found) (to : ℕ) (pre post : List Found) (s : RawSurface) (line : Option RawLine) → IsPlaced Breakline e to pre post → IsCounted pre s → line ≡ None → Grows true Breakline e.depth (e.tag_end + 1) e.inside
+  breakline_shown : (e : Found) (to : ℕ) (pre post : List Found) (s : RawSurface) (line : Option RawLine) → IsPlaced surface Breakline e to pre post → IsCounted pre s → line ≡ None → Grows true Breakline e.depth (e.tag_end + 1) e.inside
       → closed Breakline (shown Breakline e s line) ≡ expected Breakline e s line
   breakline_shown e to pre post s line p c out again =
       let x = effect_of surface (within Breakline e) in
@@ -193,7 +162,7 @@ module _ (surface : Found) (u : Option LinearUnit) (ss : List RawSurface) where
       ∙ ap (λ o. at_rest u ss (added all s) (with_vertices all.vertices o)) (sym out)
 
   -- an element of a kind
-  element_shown : (in_line : Bool) (k : Kind) (e : Found) (to : ℕ) (pre post : List Found) (s : RawSurface) (line : Option RawLine) → fits in_line k ≡ true → IsPlaced k e to pre post → (in_line ≡ false → line ≡ None) → IsCounted pre s
+  element_shown : (in_line : Bool) (k : Kind) (e : Found) (to : ℕ) (pre post : List Found) (s : RawSurface) (line : Option RawLine) → fits in_line k ≡ true → IsPlaced surface k e to pre post → (in_line ≡ false → line ≡ None) → IsCounted pre s
       → ((within_line : Bool) → Grows within_line k e.depth (e.tag_end + 1) e.inside) → closed k (shown k e s line) ≡ expected k e s line
   element_shown true Outside e to pre post s line f p out c again = cc
   element_shown true Root e to pre post s line f p out c again = cc
@@ -214,27 +183,27 @@ module _ (surface : Found) (u : Option LinearUnit) (ss : List RawSurface) where
   element_shown true Point e to pre post s line f p out c again = cc
   element_shown true Faces e to pre post s line f p out c again = cc
   element_shown true Face e to pre post s line f p out c again = cc
-  element_shown true Skipped e to pre post s line f p out c again = again true (pre ++ of_kind e Skipped ∷ []) post s line refl (inner_part Skipped e to pre post p) out (counted_on pre (of_kind e Skipped) s refl refl c)
+  element_shown true Skipped e to pre post s line f p out c again = again true (pre ++ of_kind e Skipped ∷ []) post s line refl (inner_part surface Skipped e to pre post p) out (counted_on pre (of_kind e Skipped) s refl refl c)
   element_shown false Outside e to pre post s line f p out c again = cc
   element_shown false Root e to pre post s line f p out c again = cc
   element_shown false Units e to pre post s line f p out c again = cc
   element_shown false UnitOf e to pre post s line f p out c again = cc
   element_shown false Surfaces e to pre post s line f p out c again = cc
   element_shown false Surface e to pre post s line f p out c again = cc
-  element_shown false SourceData e to pre post s line f p out c again = again false (pre ++ of_kind e SourceData ∷ []) post s line refl (inner_part SourceData e to pre post p) out (counted_on pre (of_kind e SourceData) s refl refl c)
-  element_shown false Boundaries e to pre post s line f p out c again = again false (pre ++ of_kind e Boundaries ∷ []) post s line refl (inner_part Boundaries e to pre post p) out (counted_on pre (of_kind e Boundaries) s refl refl c)
+  element_shown false SourceData e to pre post s line f p out c again = again false (pre ++ of_kind e SourceData ∷ []) post s line refl (inner_part surface SourceData e to pre post p) out (counted_on pre (of_kind e SourceData) s refl refl c)
+  element_shown false Boundaries e to pre post s line f p out c again = again false (pre ++ of_kind e Boundaries ∷ []) post s line refl (inner_part surface Boundaries e to pre post p) out (counted_on pre (of_kind e Boundaries) s refl refl c)
   element_shown false Boundary e to pre post s line f p out c again = boundary_shown e to pre post s line p c (out refl) (again true)
-  element_shown false Breaklines e to pre post s line f p out c again = again false (pre ++ of_kind e Breaklines ∷ []) post s line refl (inner_part Breaklines e to pre post p) out (counted_on pre (of_kind e Breaklines) s refl refl c)
+  element_shown false Breaklines e to pre post s line f p out c again = again false (pre ++ of_kind e Breaklines ∷ []) post s line refl (inner_part surface Breaklines e to pre post p) out (counted_on pre (of_kind e Breaklines) s refl refl c)
   element_shown false Breakline e to pre post s line f p out c again = breakline_shown e to pre post s line p c (out refl) (again true)
-  element_shown false DataPoints e to pre post s line f p out c again = again false (pre ++ of_kind e DataPoints ∷ []) post s line refl (inner_part DataPoints e to pre post p) out (counted_on pre (of_kind e DataPoints) s refl refl c)
+  element_shown false DataPoints e to pre post s line f p out c again = again false (pre ++ of_kind e DataPoints ∷ []) post s line refl (inner_part surface DataPoints e to pre post p) out (counted_on pre (of_kind e DataPoints) s refl refl c)
   element_shown false Triples e to pre post s line f p out c again = triples_shown e to pre post s line p c
   element_shown false Pairs e to pre post s line f p out c again = pairs_shown e to pre post s line p c
-  element_shown false Definition e to pre post s line f p out c again = again false (pre ++ of_kind e Definition ∷ []) post s line refl (inner_part Definition e to pre post p) out (counted_on pre (of_kind e Definition) s refl refl c)
-  element_shown false Points e to pre post s line f p out c again = again false (pre ++ of_kind e Points ∷ []) post s line refl (inner_part Points e to pre post p) out (counted_on pre (of_kind e Points) s refl refl c)
+  element_shown false Definition e to pre post s line f p out c again = again false (pre ++ of_kind e Definition ∷ []) post s line refl (inner_part surface Definition e to pre post p) out (counted_on pre (of_kind e Definition) s refl refl c)
+  element_shown false Points e to pre post s line f p out c again = again false (pre ++ of_kind e Points ∷ []) post s line refl (inner_part surface Points e to pre post p) out (counted_on pre (of_kind e Points) s refl refl c)
   element_shown false Point e to pre post s line f p out c again = point_shown e to pre post s line p c
-  element_shown false Faces e to pre post s line f p out c again = again false (pre ++ of_kind e Faces ∷ []) post s line refl (inner_part Faces e to pre post p) out (counted_on pre (of_kind e Faces) s refl refl c)
+  element_shown false Faces e to pre post s line f p out c again = again false (pre ++ of_kind e Faces ∷ []) post s line refl (inner_part surface Faces e to pre post p) out (counted_on pre (of_kind e Faces) s refl refl c)
   element_shown false Face e to pre post s line f p out c again = face_shown e s line
-  element_shown false Skipped e to pre post s line f p out c again = again false (pre ++ of_kind e Skipped ∷ []) post s line refl (inner_part Skipped e to pre post p) out (counted_on pre (of_kind e Skipped) s refl refl c)
+  element_shown false Skipped e to pre post s line f p out c again = again false (pre ++ of_kind e Skipped ∷ []) post s line refl (inner_part surface Skipped e to pre post p) out (counted_on pre (of_kind e Skipped) s refl refl c)
 
   -- of content after some elements
   then_more : (es fs : List Found) (s : RawSurface) (line : Option RawLine) → effected u ss (effect_of surface fs) (added (effect_of surface es) s) (with_vertices (effect_of surface es).vertices line) ≡ effected u ss (effect_of surface (es ++ fs)) s line
@@ -272,7 +241,7 @@ module _ (surface : Found) (u : Option LinearUnit) (ss : List RawSurface) where
       let n = empty_end at tag after in
       let first = first_part surface at m (end_of at (Empty tag after)) (e ∷ []) fs pre post (omega (arith, n)) (none_before k depth m after) part in
       let second = second_part surface at m (end_of at (Empty tag after)) (e ∷ []) fs pre post (omega arith) (λ offset z. upto_earlier offset e [] (omega (arith, z))) part in
-      let placed : IsPlaced own e m pre (fs ++ post) = record { part = first; tag = omega arith; end = omega arith } in
+      let placed : IsPlaced surface own e m pre (fs ++ post) = record { part = first; tag = omega arith; end = omega arith } in
       ap (λ v. gather (closed own (opened own at v (at_rest u ss s line))) rest) value
       ∙ ap (λ g. gather g rest) (element_shown in_line own e m pre (fs ++ post) s line (fits_below in_line k tag.name h) placed out c (λ within_line. nothing_grows within_line own (depth + 1) (e.tag_end + 1)))
       ∙ grows in_line k depth m after (pre ++ e ∷ []) post (added (effect_of surface (e ∷ [])) s) (with_vertices (effect_of surface (e ∷ [])).vertices line) h
@@ -295,7 +264,7 @@ module _ (surface : Found) (u : Option LinearUnit) (ss : List RawSurface) where
       let first = first_part surface at there to es fs pre post (omega (arith, n)) (none_before k depth there after) part in
       let old : (offset : ℕ) → there ≤ offset → upto offset es ≡ es = λ offset z. upto_earlier offset e (elements own (depth + 1) m inside) (omega (arith, z)) ∙ ap (λ ys. e ∷ ys) (all_before own (depth + 1) m inside offset (omega (arith, z))) in
       let second = second_part surface at there to es fs pre post (omega arith) old part in
-      let placed : IsPlaced own e there pre (fs ++ post) = record {
+      let placed : IsPlaced surface own e there pre (fs ++ post) = record {
         part = subst (λ z. IsPart surface at there (e ∷ elements own (depth + 1) z inside) pre (fs ++ post)) (sym p) first;
         tag = omega arith;
         end = omega arith;

@@ -31,5 +31,7 @@ pub mod Nesting
 pub mod Places
 pub mod Gathering
 pub mod Effects
+pub mod Placed
 pub mod Growing
 pub mod Gathered
+pub mod ListsRead

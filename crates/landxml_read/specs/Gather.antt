@@ -21,14 +21,14 @@ use Rattle.landxml_read.specs.declared.tokens.Tokens.{Tokens}
 use Rattle.landxml_read.specs.Numbers.{number_cause}
 use Rattle.landxml_read.specs.declared.act.Act.{Act}
 use Rattle.landxml_read.specs.declared.act.Act.TheVariants.{Pass, Letter, Less, BeginName, Name, BeginAttribute, Attribute, BeginValue, Value, EndValue, Opens, Passes, Closes, Quotes}
-use Rattle.landxml_read.specs.Markup.{is_white}
+use Rattle.landxml_read.specs.Markup.{is_white, Document}
 use Rattle.landxml_read.specs.Faults.{has_text, has_numbers}
 use Rattle.landxml_read.specs.Tokens.{kind_in}
 use Rattle.landxml_read.specs.Words.{Word}
 use Rattle.landxml_read.specs.declared.raw.RawFace.{RawFace}
 use Rattle.landxml_read.specs.declared.raw.RawLine.{RawLine}
 use Rattle.landxml_read.specs.declared.raw.RawSurface.{RawSurface}
-use Rattle.landxml_read.specs.Lists.{number, ring_kind, named_unit}
+use Rattle.landxml_read.specs.Lists.{number, ring_kind, named_unit, unit_of, surfaces_of}
 use Rattle.landxml_read.specs.Events.{Event, Opened, Read, Ampersand, Quoted, Closed, Opening, Closing}
 
 -- nothing
@@ -209,3 +209,8 @@ CanGather Quotes b t = Unit {0}
 pub record HasRoom (g : Gathered) : Type 0 where
   pub triples : length (triples_in g.surface) < 2 ^ 32
   pub pairs : length (pairs_in g.surface) < 2 ^ 32
+
+-- what was gathered is what the document holds
+pub record IsGatheredOf (d : Document) (g : Gathered) : Type 0 where
+  pub unit : unit_or_meter g.unit ≡ unit_of d
+  pub surfaces : g.surfaces ≡ surfaces_of d
