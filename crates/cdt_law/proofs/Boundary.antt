@@ -133,7 +133,7 @@ module _ (base planned : Net) (sheet : IsSheet base) (sheet' : IsSheet planned) 
         by zero e = refl
         by (suc n) e = absurd (never (gone-on planned base b a (omega (arith, e))))
 
-  exchanged : IsInner base planned → (a b : Corner) → 0 < times_among (gone base planned) (a, b) → times_among (gone base planned) (b, a) ≡ 0 → (0 < times_among (gone planned base) (a, b)) × (times_among (gone planned base) (b, a) ≡ 0)
+  pub exchanged : IsInner base planned → (a b : Corner) → 0 < times_among (gone base planned) (a, b) → times_among (gone base planned) (b, a) ≡ 0 → (0 < times_among (gone planned base) (a, b)) × (times_among (gone planned base) (b, a) ≡ 0)
   exchanged inner a b some alone = by (gone-on base planned a b some)
     where
       by : GoneOn base planned a b → (0 < times_among (gone planned base) (a, b)) × (times_among (gone planned base) (b, a) ≡ 0)

@@ -49,3 +49,5 @@ pub mod Boundary
 pub mod HighestTurn
 pub mod RingAround
 pub mod Enclosed
+-- stale plans
+pub mod Renewed

@@ -1,17 +1,18 @@
 -- Planned triangles put into a newer sheet make a locally Delaunay sheet.
 use Rattle.std.proofs.Common.{◌≡◌, ℕ, ◌+◌, ◌⊎◌, inl, inr, sym, ap, subst, ◌∙◌, arith, List, [], ◌++◌, Bool, true, false, flat_map}
 use Rattle.std.specs.Prelude.{ℤ, pos, ◌+ℤ◌, ◌<ℤ◌, ◌≤ℤ◌, int_lt, cond, Some, slice_get}
-use Rattle.std.specs.List.{list_all, list_any}
+use Rattle.std.specs.List.{All, list_all, list_any}
 use Rattle.std.proofs.lemmas.Int.{ints}
 use Rattle.std.proofs.lemmas.Bool.{and_parts, and_from, or_cases, or_right}
 use Rattle.std.proofs.lemmas.List.Sums.{sum_by-append}
 use Rattle.std.proofs.lemmas.List.Folds.{list_any-append, list_all-append}
 use Rattle.ground_model.specs.declared.corner.Corner.{Corner}
 use Rattle.ground_model.specs.Corner.{corner_side, is_corner_inside}
+use Rattle.ground_model.specs.Place.{IsPlace}
 use Rattle.predicates.specs.Sums.{total}
 use Rattle.predicates.specs.HalfOpen.{indicate}
 use Rattle.predicates.specs.Net.{Net, Triangle, Edge, edges_of, edges_in, is_same_edge, is_triangle, is_turned, reversed, times_in, rim, has, count_of}
-use Rattle.predicates.specs.Sheet.{IsSheet, IsClosed, IsLocallyDelaunay, rimmed}
+use Rattle.predicates.specs.Sheet.{IsSheet, IsClosed, IsLocallyDelaunay, rimmed, are_over}
 use Rattle.predicates.proofs.Sums.{total-append, total-flat_map}
 use Rattle.predicates.proofs.Edges.{counted}
 use Rattle.predicates.proofs.Heights.{lift, deep}
@@ -32,10 +33,10 @@ all-both p xs ys e f = list_all-append p xs ys ∙ and_from (list_all p xs) (lis
 all-each : {X : Type 0} (p : X → Bool) (xs ys : List X) → list_all p (xs ++ ys) ≡ true → (list_all p xs ≡ true) × (list_all p ys ≡ true)
 all-each p xs ys e = and_parts (list_all p xs) (list_all p ys) (sym (list_all-append p xs ys) ∙ e)
 
-any-second : {X : Type 0} (p : X → Bool) (xs ys : List X) → list_any p ys ≡ true → list_any p (xs ++ ys) ≡ true
+pub any-second : {X : Type 0} (p : X → Bool) (xs ys : List X) → list_any p ys ≡ true → list_any p (xs ++ ys) ≡ true
 any-second p xs ys e = list_any-append p xs ys ∙ or_right (list_any p xs) (list_any p ys) e
 
-any-either : {X : Type 0} (p : X → Bool) (xs ys : List X) → list_any p (xs ++ ys) ≡ true → (list_any p xs ≡ true) ⊎ (list_any p ys ≡ true)
+pub any-either : {X : Type 0} (p : X → Bool) (xs ys : List X) → list_any p (xs ++ ys) ≡ true → (list_any p xs ≡ true) ⊎ (list_any p ys ≡ true)
 any-either p xs ys e = or_cases (list_any p xs) (list_any p ys) (sym (list_any-append p xs ys) ∙ e)
 
 -- ---- how often an edge occurs in a list of triangles
@@ -51,7 +52,7 @@ among-append xs ys e =
     sum n m k s t u e f g h = omega (arith, ints, e, f, g, h)
 
 -- in a net of two lists, with the rim
-rimmed-among : (net : Net) (xs ys : List Triangle) → net.triangles ≡ xs ++ ys → (e : Edge) → times_in (rimmed net) e ≡ times_among xs e + times_among ys e + times_in rim e
+pub rimmed-among : (net : Net) (xs ys : List Triangle) → net.triangles ≡ xs ++ ys → (e : Edge) → times_in (rimmed net) e ≡ times_among xs e + times_among ys e + times_in rim e
 rimmed-among net xs ys is e =
     sum_by-append (λ y. cond (is_same_edge e y) 1 0) (edges_in net) rim ∙ ap (λ n. n + times_in rim e) (ap (λ ts. times_among ts e) is ∙ among-append xs ys e)
 
@@ -70,26 +71,28 @@ turned-within planned sheet made made_in = passes-each is_turned made (λ k t at
     turned : {a b c : Corner} → HasOwner planned a b c → pos 0 <ℤ corner_side a b c
     turned {a} {b} {c} o = subst (λ (z : Corner). pos 0 <ℤ corner_side a b z) o.third (turn-side o.owner.triangle a b o.owner.third o.owner.turn (left-of planned sheet o.owner.index o.owner.triangle o.owner.at))
 
-after-closed : (planned newest after : Net) → IsSheet planned → IsSheet newest → IsPatch planned newest after → IsClosed after
-after-closed planned newest after p n x = record {
-  places = x.places;
-  over = x.over;
-  turned = ap (list_all is_turned) x.after_is ∙ all-both is_turned x.made x.others
-      (turned-within planned p x.made x.made_in)
-      (all-each is_turned x.destroyed x.others (sym (ap (list_all is_turned) x.newest_is) ∙ n.turned)).1;
-  matched = λ e. sum (times_among x.destroyed e) (times_among x.made e) (times_among x.others e) (times_in rim e)
-      (times_among x.destroyed (reversed e)) (times_among x.made (reversed e)) (times_among x.others (reversed e)) (times_in rim (reversed e))
+pub replaced-closed : (planned newest after : Net) → IsSheet planned → IsSheet newest → (destroyed made others : List Triangle) → newest.triangles ≡ destroyed ++ others → after.triangles ≡ made ++ others
+    → ((a b c : Corner) → is_in made a b c ≡ true → has planned a b c ≡ true) → ((x : Edge) → times_among destroyed x + times_among made (reversed x) ≡ times_among made x + times_among destroyed (reversed x))
+    → All IsPlace after.points → list_all (are_over after.points) after.triangles ≡ true → IsClosed after
+replaced-closed planned newest after p n destroyed made others newest_is after_is made_in boundary places over = record {
+  places = places;
+  over = over;
+  turned = ap (list_all is_turned) after_is ∙ all-both is_turned made others
+      (turned-within planned p made made_in)
+      (all-each is_turned destroyed others (sym (ap (list_all is_turned) newest_is) ∙ n.turned)).1;
+  matched = λ e. sum (times_among destroyed e) (times_among made e) (times_among others e) (times_in rim e)
+      (times_among destroyed (reversed e)) (times_among made (reversed e)) (times_among others (reversed e)) (times_in rim (reversed e))
       (times_in (rimmed newest) e) (times_in (rimmed after) e) (times_in (rimmed newest) (reversed e)) (times_in (rimmed after) (reversed e))
-      (rimmed-among newest x.destroyed x.others x.newest_is e) (rimmed-among after x.made x.others x.after_is e)
-      (rimmed-among newest x.destroyed x.others x.newest_is (reversed e)) (rimmed-among after x.made x.others x.after_is (reversed e))
-      (n.matched e) (x.boundary e);
+      (rimmed-among newest destroyed others newest_is e) (rimmed-among after made others after_is e)
+      (rimmed-among newest destroyed others newest_is (reversed e)) (rimmed-among after made others after_is (reversed e))
+      (n.matched e) (boundary e);
 }
   where
     sum : (d m o r d' m' o' r' s0 s1 t0 t1 : ℕ) → s0 ≡ d + o + r → s1 ≡ m + o + r → t0 ≡ d' + o' + r' → t1 ≡ m' + o' + r' → s0 ≡ t0 → d + m' ≡ m + d' → s1 ≡ t1
     sum d m o r d' m' o' r' s0 s1 t0 t1 e0 e1 f0 f1 g h = omega (arith, e0, e1, f0, f1, g, h)
 
 after-sheet : (planned newest after : Net) → IsSheet planned → IsSheet newest → IsPatch planned newest after → IsSheet after
-after-sheet planned newest after p n x = closed_law after (after-closed planned newest after p n x) x.spanned
+after-sheet planned newest after p n x = closed_law after (replaced-closed planned newest after p n x.destroyed x.made x.others x.newest_is x.after_is x.made_in x.boundary x.places x.over) x.spanned
 
 -- ---- after is locally Delaunay
 exchanged : (a b c d : Corner) → is_corner_inside b a d c ≡ false → is_corner_inside a b c d ≡ false

@@ -9,6 +9,7 @@ ghost use Rattle.cdt_law.specs.Hull.{HullLaw};
 ghost use Rattle.cdt_law.specs.Order.{OrderLaw};
 ghost use Rattle.cdt_law.specs.Patch.{PatchLaw};
 ghost use Rattle.cdt_law.specs.Point.{PointLaw};
+ghost use Rattle.cdt_law.specs.Stale.{ZoneLaw};
 ghost use Rattle.cdt_law.specs.Laws.{EdgeLaw, FacetLaw, FirstLaw, LocalLaw, NetLaw, OnceLaw, UniqueLaw};
 
 /// The triangle of the far corners alone is a locally Delaunay sheet of no points: the laws below are about something.
@@ -112,4 +113,10 @@ pub fn boundary_law()
 /// more, and no facet that it has alone has an edge on the hull, each encloses the points of the other.
 pub fn enclose_law()
     ensures { EncloseLaw }
+{}
+
+/// What an edit of the base makes fits into a newer sheet which still has what it destroys and what is beside that, where
+/// none of these facets is on the hull: the result is a locally Delaunay sheet.
+pub fn zone_law()
+    ensures { ZoneLaw }
 {}
