@@ -1,53 +1,42 @@
 -- A point more that is within the hull changes no edge of the hull.
 use Rattle.std.proofs.Common.{◌≡◌, ℕ, inl, inr, ◌⊎◌, refl, sym, ap, subst, ◌∙◌, arith, [], ◌∷◌, Bool, true, false, Some}
-use Rattle.std.specs.Prelude.{ℤ, pos, ◌+ℤ◌, ◌*ℤ◌, ◌<ℤ◌, ◌≤ℤ◌, not, slice_get}
+use Rattle.std.specs.Prelude.{ℤ, pos, ◌<ℤ◌, ◌≤ℤ◌, not, slice_get}
 use Rattle.std.specs.List.{list_any}
 use Rattle.std.proofs.lemmas.Int.{ints, by_lt_z}
 use Rattle.std.proofs.lemmas.Bool.{and_parts, and_from, both_ways as clash, not_from_false, not_from_true, false_from_ne_true}
 use Rattle.std.proofs.lemmas.List.Elements.{All-nil, All-cons}
 use Rattle.ground_model.specs.declared.corner.Corner.{Corner}
-use Rattle.ground_model.specs.declared.corner.Corner.TheVariants.{At, Far}
+use Rattle.ground_model.specs.declared.corner.Corner.TheVariants.{At}
 use Rattle.ground_model.specs.declared.facet.Facet.{Facet}
 use Rattle.ground_model.specs.Place.{Coords, IsPlace, is_same}
 use Rattle.ground_model.specs.Side.{side, is_left}
 use Rattle.ground_model.specs.Line.{is_point}
 use Rattle.ground_model.specs.Mark.{is_among}
-use Rattle.ground_model.specs.Corner.{corner_at, corner_side}
+use Rattle.ground_model.specs.Corner.{corner_at}
 use Rattle.ground_model.proofs.Elements.{In, any_gives, any_from}
 use Rattle.ground_model.proofs.LinePieces.{is_same_itself, in_points, is_point_in}
 use Rattle.ground_model.proofs.Ties.{same_of_is_same}
-use Rattle.ground_model.proofs.ZOrder.{mul-positive}
 use Rattle.predicates.specs.Net.{Net, Triangle, has, facet_by, facets_of}
-use Rattle.predicates.specs.Sheet.{IsSheet, IsLocallyDelaunay, is_over}
-use Rattle.predicates.specs.Weighted.{Weighted, weighted_side, gathered}
+use Rattle.predicates.specs.Sheet.{IsSheet, IsLocallyDelaunay}
+use Rattle.predicates.specs.Weighted.{weighted_side, gathered}
 use Rattle.predicates.specs.Tiling.{IsInside, HasWithin}
 use Rattle.predicates.proofs.Tiling.{left-of}
 use Rattle.predicates.proofs.Cover.{covered, gathered-some}
 use Rattle.predicates.proofs.Nudged.{Inside, Shared, nudged, center, center-pq, center-qr, center-rp}
-use Rattle.predicates.proofs.WeightedSides.{weighted_side-mixed}
-use Rattle.predicates.proofs.FarTriangle.{packed, listed-place}
-use Rattle.predicates.proofs.Owners.{IsTurn, Still, Once, Twice, turn-side, turn-next, turn-inside}
+use Rattle.predicates.proofs.FarTriangle.{listed-place}
+use Rattle.predicates.proofs.Owners.{IsTurn, turn-side, turn-next}
 use Rattle.predicates.proofs.HasTriangles.{HasOwner, has-owner}
 use Rattle.predicates.proofs.NoFourInPlane.{is_left-from}
 use Rattle.predicates.proofs.FlatSides.{flat_ab}
-use Rattle.predicates.proofs.Signs.{mul-mixed, never-level, positive-along, weaken}
+use Rattle.predicates.proofs.Signs.{never-level, positive-along}
 use Rattle.cdt_law.specs.Hull.{Encloses}
 use Rattle.cdt_law.specs.Boundary.{IsInner}
 use Rattle.cdt_law.specs.Enclose.{HasPointMore, HasGone, EncloseLaw}
 use Rattle.cdt_law.proofs.GoodInSheet.{over-first}
 use Rattle.cdt_law.proofs.Hull.{hull_law, not_left}
-use Rattle.cdt_law.proofs.HighestTurn.{HighTurn, places-or-high}
+use Rattle.cdt_law.proofs.Overlaps.{not-left-is, ThreeOf, three-of, overlap-gone}
 use Rattle.cdt_law.proofs.RingAround.{no-half-plane}
-use Rattle.cdt_law.proofs.GoneFacets.{turn-in, some-facet, Places, places-of, facet-among, HasFacet, facet-there, Gone, gone-of, gone-in}
-
-not-left-is : (a b p : Coords) → is_left a b p ≡ false → side a b p ≤ℤ pos 0
-not-left-is a b p e = by_lt_z (pos 0) (side a b p) (λ lt. absurd (clash (is_left a b p) e (is_left-from a b p lt))) (λ le. le)
-
--- what lies strictly inside a triangle lies strictly inside each of its turns
-turn-left : (t : Triangle) (a b c : Corner) (x : Weighted) → IsTurn t a b c → IsInside t x → pos 0 <ℤ weighted_side (corner_at a) (corner_at b) x
-turn-left t a b c x Still h = h.ab
-turn-left t a b c x Once h = h.bc
-turn-left t a b c x Twice h = h.ca
+use Rattle.cdt_law.proofs.GoneFacets.{turn-in, some-facet, Places, places-of, facet-there, Gone, gone-of, gone-in}
 
 module _ (more fewer : Net) (c : Coords) (sheet : IsSheet more) (local : IsLocallyDelaunay more) (sheet' : IsSheet fewer) (local' : IsLocallyDelaunay fewer) (x : HasPointMore more fewer c) (inner : IsInner more fewer) where
   still : (p : Coords) → is_point fewer.points p ≡ true → is_point more.points p ≡ true
@@ -58,6 +47,9 @@ module _ (more fewer : Net) (c : Coords) (sheet : IsSheet more) (local : IsLocal
 
   none : is_point fewer.points c ≡ true → ⊥
   none e = clash (not (is_same c c)) (not_from_true (is_same c c) (is_same_itself c)) (and_parts (is_point more.points c) (not (is_same c c)) (sym (x.points c) ∙ e)).1
+
+  encloses-fewer : Encloses more fewer
+  encloses-fewer a b k e la lb p at_p = hull_law more sheet local a b k e la lb p (still p at_p)
 
   -- ---- facets at c
   record Around (y : Coords) : Type 0 where
@@ -159,107 +151,38 @@ module _ (more fewer : Net) (c : Coords) (sheet : IsSheet more) (local : IsLocal
     g : Gone fewer more h.a h.b h.c
     g = gone-of fewer more h.a h.b h.c h.there
 
-    ps : Places g.triangle.a g.triangle.b g.triangle.c
-    ps = places-of fewer g.triangle g.triangle.a g.triangle.b g.triangle.c g.facet Still g.is
-
-    its-point : (z u v : Corner) (p : Coords) → IsTurn g.triangle z u v → z ≡ At p → is_point fewer.points p ≡ true
-    its-point z u v p turn e = ap (is_over fewer.points) (sym e) ∙ over-first fewer sheet' g.index g.triangle z u v g.at turn
-
-    at_p : is_point fewer.points ps.p ≡ true
-    at_p = its-point g.triangle.a g.triangle.b g.triangle.c ps.p Still ps.first
-
-    at_q : is_point fewer.points ps.q ≡ true
-    at_q = its-point g.triangle.b g.triangle.c g.triangle.a ps.q Once ps.second
-
-    at_r : is_point fewer.points ps.r ≡ true
-    at_r = its-point g.triangle.c g.triangle.a g.triangle.b ps.r Twice ps.third
-
-    same : g.triangle ≡ record { a = At ps.p; b = At ps.q; c = At ps.r }
-    same = λ i. record { a = ps.first i; b = ps.second i; c = ps.third i }
-
-    area : pos 0 <ℤ side ps.p ps.q ps.r
-    area = subst (λ (s : Triangle). pos 0 <ℤ corner_side s.a s.b s.c) same (left-of fewer sheet' g.index g.triangle g.at)
+    ps : ThreeOf fewer g.triangle
+    ps = three-of fewer sheet' g.index g.triangle g.facet g.at g.is
 
     place : (p : Coords) → is_point fewer.points p ≡ true → IsPlace p
     place p at = listed-place fewer.points sheet'.places p at
 
     held : HasWithin more (gathered ps.p (ps.q ∷ ps.r ∷ []))
-    held = covered more sheet ps.p (ps.q ∷ ps.r ∷ []) (All-cons IsPlace ps.p (ps.q ∷ ps.r ∷ []) (place ps.p at_p) (All-cons IsPlace ps.q (ps.r ∷ []) (place ps.q at_q) (All-cons IsPlace ps.r [] (place ps.r at_r) (All-nil IsPlace))))
+    held = covered more sheet ps.p (ps.q ∷ ps.r ∷ []) (All-cons IsPlace ps.p (ps.q ∷ ps.r ∷ []) (place ps.p ps.at_p) (All-cons IsPlace ps.q (ps.r ∷ []) (place ps.q ps.at_q) (All-cons IsPlace ps.r [] (place ps.r ps.at_r) (All-nil IsPlace))))
 
     middle : Inside ps.p ps.q ps.r (center ps.p ps.q ps.r)
     middle = record {
-      ab = positive-along (weighted_side ps.p ps.q (center ps.p ps.q ps.r)) (side ps.p ps.q ps.r) (center-pq ps.p ps.q ps.r) area;
-      bc = positive-along (weighted_side ps.q ps.r (center ps.p ps.q ps.r)) (side ps.p ps.q ps.r) (center-qr ps.p ps.q ps.r) area;
-      ca = positive-along (weighted_side ps.r ps.p (center ps.p ps.q ps.r)) (side ps.p ps.q ps.r) (center-rp ps.p ps.q ps.r) area;
+      ab = positive-along (weighted_side ps.p ps.q (center ps.p ps.q ps.r)) (side ps.p ps.q ps.r) (center-pq ps.p ps.q ps.r) ps.area;
+      bc = positive-along (weighted_side ps.q ps.r (center ps.p ps.q ps.r)) (side ps.p ps.q ps.r) (center-qr ps.p ps.q ps.r) ps.area;
+      ca = positive-along (weighted_side ps.r ps.p (center ps.p ps.q ps.r)) (side ps.p ps.q ps.r) (center-rp ps.p ps.q ps.r) ps.area;
     }
 
     abbrev s : Triangle
     s = held.triangle
 
-    turned_s : pos 0 <ℤ corner_side s.a s.b s.c
-    turned_s = left-of more sheet held.index s held.at
-
     shared : Shared ps.p ps.q ps.r (corner_at s.a) (corner_at s.b) (corner_at s.c)
     shared = nudged ps.p ps.q ps.r (corner_at s.a) (corner_at s.b) (corner_at s.c) (center ps.p ps.q ps.r) (gathered-some ps.p (ps.q ∷ ps.r ∷ [])) middle
-        (record { ab = held.within.ab; bc = held.within.bc; ca = held.within.ca }) turned_s
-
-    in_s : IsInside s shared.point
-    in_s = turn-inside s s.a s.b s.c shared.point Still shared.second
-
-    in_g : IsInside g.triangle shared.point
-    in_g = subst (λ (u : Triangle). IsInside u shared.point) (sym same) (record { ab = shared.first.ab; bc = shared.first.bc; ca = shared.first.ca })
-
-    -- the triangle there is not far
-    not-high : HighTurn s → ⊥
-    not-high t = outside (side ps.p ps.q ps.r *ℤ weighted_side a b shared.point)
-        (weighted_side ps.q ps.r shared.point *ℤ side a b ps.p) (weighted_side ps.r ps.p shared.point *ℤ side a b ps.q) (weighted_side ps.p ps.q shared.point *ℤ side a b ps.r)
-        (weighted_side-mixed a b ps.p ps.q ps.r shared.point)
-        (mul-positive (side ps.p ps.q ps.r) (weighted_side a b shared.point) area (turn-left s t.a t.b (Far t.k) shared.point t.turn in_s))
-        (mul-mixed (weighted_side ps.q ps.r shared.point) (side a b ps.p) (weaken (weighted_side ps.q ps.r shared.point) shared.first.bc) (low ps.p at_p))
-        (mul-mixed (weighted_side ps.r ps.p shared.point) (side a b ps.q) (weaken (weighted_side ps.r ps.p shared.point) shared.first.ca) (low ps.q at_q))
-        (mul-mixed (weighted_side ps.p ps.q shared.point) (side a b ps.r) (weaken (weighted_side ps.p ps.q shared.point) shared.first.ab) (low ps.r at_r))
-      where
-        a : Coords
-        a = corner_at t.a
-
-        b : Coords
-        b = corner_at t.b
-
-        low : (p : Coords) → is_point fewer.points p ≡ true → side (corner_at t.a) (corner_at t.b) p ≤ℤ pos 0
-        low p at = not-left-is (corner_at t.a) (corner_at t.b) p (hull_law more sheet local t.a t.b t.k (turn-in more.triangles held.index s t.a t.b (Far t.k) held.at t.turn) t.low_a t.low_b p (still p at))
-
-        outside : (l x y z : ℤ) → l ≡ x +ℤ y +ℤ z → pos 0 <ℤ l → x ≤ℤ pos 0 → y ≤ℤ pos 0 → z ≤ℤ pos 0 → ⊥
-        outside l x y z e h i j k = omega (arith, ints, e, h, i, j, k)
-
-    -- nor is its facet one of both
-    not-both : (f : Facet) → facet_by more s.a s.b s.c ≡ Some f → is_among (facets_of fewer) f ≡ false
-    not-both f is = by (is_among (facets_of fewer) f) refl
-      where
-        never : HasFacet fewer f s.a s.b s.c → ⊥
-        never k = at (has-owner fewer s.a s.b s.c k.there)
-          where
-            at : HasOwner fewer s.a s.b s.c → ⊥
-            at o =
-                let turn = subst (λ w. IsTurn o.owner.triangle s.a s.b w) o.third o.owner.turn in
-                let index : g.index ≡ o.owner.index = packed fewer sheet' shared.point shared.some g.index o.owner.index g.triangle o.owner.triangle g.at o.owner.at in_g (turn-inside o.owner.triangle s.a s.b s.c shared.point turn shared.second) in
-                let one : Some g.triangle ≡ Some o.owner.triangle = sym g.at ∙ ap (slice_get fewer.triangles) index ∙ o.owner.at in
-                let triangle : g.triangle ≡ o.owner.triangle = cc in
-                let facets : Some g.facet ≡ Some f = sym g.is ∙ ap (λ u. facet_by fewer u.a u.b u.c) triangle ∙ k.each o.owner.index o.owner.triangle o.owner.at turn in
-                let equal : g.facet ≡ f = cc in
-                clash (is_among (facets_of more) g.facet) g.none (ap (is_among (facets_of more)) equal ∙ facet-among more held.index s f held.at is)
-
-        by : (t : Bool) → is_among (facets_of fewer) f ≡ t → t ≡ false
-        by false e = refl
-        by true e = absurd (never (facet-there more fewer sheet sheet' held.index s s.a s.b s.c f held.at Still is e))
+        (record { ab = held.within.ab; bc = held.within.bc; ca = held.within.ca }) (left-of more sheet held.index s held.at)
 
     new-one : HasGone more fewer
-    new-one = by (places-or-high s turned_s)
-      where
-        by : Places s.a s.b s.c ⊎ HighTurn s → HasGone more fewer
-        by (inr t) = absurd (not-high t)
-        by (inl t) =
-            let f = some-facet more s s.a s.b s.c t.p t.q t.r Still t.first t.second t.third in
-            record { a = s.a; b = s.b; c = s.c; there = gone-in more fewer held.index s s.a s.b s.c f.0 held.at Still f.1 (not-both f.0 f.1) }
+    new-one = record {
+      a = s.a;
+      b = s.b;
+      c = s.c;
+      there = overlap-gone more fewer sheet sheet' encloses-fewer h.a h.b h.c g held.index s held.at shared.point shared.some
+          (record { ab = shared.second.ab; bc = shared.second.bc; ca = shared.second.ca })
+          (subst (λ (u : Triangle). IsInside u shared.point) (sym ps.is) (record { ab = shared.first.ab; bc = shared.first.bc; ca = shared.first.ca }));
+    }
 
   -- ---- both enclose the points of both
   encloses-more : AtC → Encloses fewer more
@@ -276,9 +199,6 @@ module _ (more fewer : Net) (c : Coords) (sheet : IsSheet more) (local : IsLocal
       by : (t : Bool) → is_same c p ≡ t → is_left (corner_at a) (corner_at b) p ≡ false
       by true f = ap (is_left (corner_at a) (corner_at b)) (sym (same_of_is_same c p f)) ∙ it
       by false f = own p (x.points p ∙ and_from (is_point more.points p) (not (is_same c p)) at_p (not_from_false (is_same c p) f))
-
-  encloses-fewer : Encloses more fewer
-  encloses-fewer a b k e la lb p at_p = hull_law more sheet local a b k e la lb p (still p at_p)
 
   both-enclose : HasGone more fewer ⊎ HasGone fewer more → Encloses more fewer × Encloses fewer more
   both-enclose (inl h) = (encloses-fewer, encloses-more (at-c h))

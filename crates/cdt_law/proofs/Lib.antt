@@ -48,6 +48,8 @@ pub mod GoneFacets
 pub mod Boundary
 pub mod HighestTurn
 pub mod RingAround
+pub mod Overlaps
 pub mod Enclosed
 -- stale plans
 pub mod Renewed
+pub mod SharedCorners

@@ -3,6 +3,7 @@
 #![tactic(auto)]
 
 ghost use Rattle.cdt_law.specs.Boundary.{BoundaryLaw};
+ghost use Rattle.cdt_law.specs.Corners.{CornerLaw};
 ghost use Rattle.cdt_law.specs.Enclose.{EncloseLaw};
 ghost use Rattle.cdt_law.specs.Flips.{DestroyedLaw, EditLaw, FallLaw, FlipLaw, KeptLaw};
 ghost use Rattle.cdt_law.specs.Hull.{HullLaw};
@@ -119,4 +120,10 @@ pub fn enclose_law()
 /// none of these facets is on the hull: the result is a locally Delaunay sheet.
 pub fn zone_law()
     ensures { ZoneLaw }
+{}
+
+/// The corners of what an edit makes are those of what it destroys: a point of the base that is a corner of what one of
+/// two sheets has alone is a corner of what the base has alone.
+pub fn corner_law()
+    ensures { CornerLaw }
 {}
