@@ -53,3 +53,4 @@ pub mod Enclosed
 -- stale plans
 pub mod Renewed
 pub mod SharedCorners
+pub mod Vertices

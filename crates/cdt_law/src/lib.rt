@@ -11,6 +11,7 @@ ghost use Rattle.cdt_law.specs.Order.{OrderLaw};
 ghost use Rattle.cdt_law.specs.Patch.{PatchLaw};
 ghost use Rattle.cdt_law.specs.Point.{PointLaw};
 ghost use Rattle.cdt_law.specs.Stale.{ZoneLaw};
+ghost use Rattle.cdt_law.specs.Vertices.{VertexLaw};
 ghost use Rattle.cdt_law.specs.Laws.{EdgeLaw, FacetLaw, FirstLaw, LocalLaw, NetLaw, OnceLaw, UniqueLaw};
 
 /// The triangle of the far corners alone is a locally Delaunay sheet of no points: the laws below are about something.
@@ -126,4 +127,10 @@ pub fn zone_law()
 /// two sheets has alone is a corner of what the base has alone.
 pub fn corner_law()
     ensures { CornerLaw }
+{}
+
+/// What an edit of the base makes of a newer net, which still has what it destroys and what is beside that, has the
+/// points that the edit makes of the newer net's as its corners, and no others but far ones.
+pub fn vertex_law()
+    ensures { VertexLaw }
 {}
