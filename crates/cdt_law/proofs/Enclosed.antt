@@ -45,21 +45,21 @@ module _ (more fewer : Net) (c : Coords) (sheet : IsSheet more) (local : IsLocal
   others : (p : Coords) → is_point more.points p ≡ true → (c ≡ p → ⊥) → is_point fewer.points p ≡ true
   others p e differs = x.points p ∙ and_from (is_point more.points p) (not (is_same c p)) e (not_from_false (is_same c p) (false_from_ne_true (is_same c p) (λ f. differs (same_of_is_same c p f))))
 
-  none : is_point fewer.points c ≡ true → ⊥
+  pub none : is_point fewer.points c ≡ true → ⊥
   none e = clash (not (is_same c c)) (not_from_true (is_same c c) (is_same_itself c)) (and_parts (is_point more.points c) (not (is_same c c)) (sym (x.points c) ∙ e)).1
 
   encloses-fewer : Encloses more fewer
   encloses-fewer a b k e la lb p at_p = hull_law more sheet local a b k e la lb p (still p at_p)
 
   -- ---- facets at c
-  record Around (y : Coords) : Type 0 where
-    next : Coords
-    at : is_point more.points y ≡ true
-    at_next : is_point more.points next ≡ true
-    there : has more (At c) (At y) (At next) ≡ true
-    left : pos 0 <ℤ side c y next
+  pub record Around (y : Coords) : Type 0 where
+    pub next : Coords
+    pub at : is_point more.points y ≡ true
+    pub at_next : is_point more.points next ≡ true
+    pub there : has more (At c) (At y) (At next) ≡ true
+    pub left : pos 0 <ℤ side c y next
 
-  around : (y z : Coords) → has more (At c) (At y) (At z) ≡ true → Around y
+  pub around : (y z : Coords) → has more (At c) (At y) (At z) ≡ true → Around y
   around y z e =
       let o = has-owner more (At c) (At y) (At z) e in
       let turn = subst (λ w. IsTurn o.owner.triangle (At c) (At y) w) o.third o.owner.turn in
@@ -73,7 +73,7 @@ module _ (more fewer : Net) (c : Coords) (sheet : IsSheet more) (local : IsLocal
       }
 
   -- the other net has none of them
-  lost : (k : ℕ) (t : Triangle) (y z : Corner) (f : Facet) → slice_get more.triangles k ≡ Some t → IsTurn t (At c) y z → facet_by more t.a t.b t.c ≡ Some f → is_among (facets_of fewer) f ≡ false
+  pub lost : (k : ℕ) (t : Triangle) (y z : Corner) (f : Facet) → slice_get more.triangles k ≡ Some t → IsTurn t (At c) y z → facet_by more t.a t.b t.c ≡ Some f → is_among (facets_of fewer) f ≡ false
   lost k t y z f at turn is = by (is_among (facets_of fewer) f) refl
     where
       never : HasOwner fewer (At c) y z → ⊥
@@ -84,7 +84,7 @@ module _ (more fewer : Net) (c : Coords) (sheet : IsSheet more) (local : IsLocal
       by true e = absurd (never (has-owner fewer (At c) y z (facet-there more fewer sheet sheet' k t (At c) y z f at turn is e).there))
 
   -- beyond the edge from c to its last corner lies another
-  turned : (y : Coords) (h : Around y) → Around h.next
+  pub turned : (y : Coords) (h : Around y) → Around h.next
   turned y h =
       let o = has-owner more (At c) (At y) (At h.next) h.there in
       let turn = subst (λ w. IsTurn o.owner.triangle (At c) (At y) w) o.third o.owner.turn in
@@ -119,11 +119,11 @@ module _ (more fewer : Net) (c : Coords) (sheet : IsSheet more) (local : IsLocal
       next v i e = let g = around-of v e in (g.next, (in_points more.points g.next g.at_next, (passes g.next (turned v g), is_left-from c v g.next g.left)))
 
   -- ---- some facet is at c
-  record AtC : Type 0 where
-    y : Coords
-    first : Around y
+  pub record AtC : Type 0 where
+    pub y : Coords
+    pub first : Around y
 
-  at-c : HasGone more fewer → AtC
+  pub at-c : HasGone more fewer → AtC
   at-c h = by (x.corner h.a h.b h.c h.there)
     where
       g : Gone more fewer h.a h.b h.c
@@ -174,7 +174,7 @@ module _ (more fewer : Net) (c : Coords) (sheet : IsSheet more) (local : IsLocal
     shared = nudged ps.p ps.q ps.r (corner_at s.a) (corner_at s.b) (corner_at s.c) (center ps.p ps.q ps.r) (gathered-some ps.p (ps.q ∷ ps.r ∷ [])) middle
         (record { ab = held.within.ab; bc = held.within.bc; ca = held.within.ca }) (left-of more sheet held.index s held.at)
 
-    new-one : HasGone more fewer
+    pub new-one : HasGone more fewer
     new-one = record {
       a = s.a;
       b = s.b;

@@ -54,3 +54,4 @@ pub mod Enclosed
 pub mod Renewed
 pub mod SharedCorners
 pub mod Vertices
+pub mod Stars

@@ -16,7 +16,7 @@ use Rattle.cdt_law.proofs.Hull.{not_left}
 use Rattle.cdt_law.proofs.NearestPoint.{Last, last}
 
 -- places a, b, c, u, v, w have numbers 0 to 5
-turns : (a b c u v w : Coords) → side c u w *ℤ (side a b v -ℤ side a b c) ≡ side c v w *ℤ (side a b u -ℤ side a b c) +ℤ side c u v *ℤ (side a b w -ℤ side a b c)
+pub turns : (a b c u v w : Coords) → side c u w *ℤ (side a b v -ℤ side a b c) ≡ side c v w *ℤ (side a b u -ℤ side a b c) +ℤ side c u v *ℤ (side a b w -ℤ side a b c)
 unfolding side
 turns a b c u v w = ring (env (a ∷ b ∷ c ∷ u ∷ v ∷ w ∷ []))
     (sideE 2 3 5 ⊗ (sideE 0 1 4 ⊖ sideE 0 1 2)) (sideE 2 4 5 ⊗ (sideE 0 1 3 ⊖ sideE 0 1 2) ⊕ sideE 2 3 4 ⊗ (sideE 0 1 5 ⊖ sideE 0 1 2)) refl

@@ -32,16 +32,16 @@ use Rattle.cdt_law.proofs.Overlaps.{overlap-gone}
 use Rattle.cdt_law.proofs.Renewed.{in-turned}
 
 -- ---- a point near p, into the triangle p, y, z
-abbrev both : Coords → Coords → Weighted
+abbrev pub both : Coords → Coords → Weighted
 both y z = joined (once y) (once z)
 
-abbrev near : Coords → Coords → Coords → ℕ → Weighted
+abbrev pub near : Coords → Coords → Coords → ℕ → Weighted
 near p y z k = joined (repeated (pos k) (once p)) (both y z)
 
 both-side : (a b y z : Coords) → weighted_side a b (both y z) ≡ side a b y +ℤ side a b z
 both-side a b y z = weighted_side-joined a b (once y) (once z) ∙ (λ i. weighted_side-once a b y i +ℤ weighted_side-once a b z i)
 
-near-inside : (p y z : Coords) (k : ℕ) → pos 0 <ℤ side p y z → unsigned_abs (weighted_side y z (both y z)) < k → Inside p y z (near p y z k)
+pub near-inside : (p y z : Coords) (k : ℕ) → pos 0 <ℤ side p y z → unsigned_abs (weighted_side y z (both y z)) < k → Inside p y z (near p y z k)
 near-inside p y z k turned less = record {
   ab = many-within p y k (once p) (both y z) (level-up (weighted_side p y (once p)) (weighted_side-once p y p ∙ flat_ca p y p refl))
       (second (weighted_side p y (both y z)) (side p y y) (side p y z) (both-side p y y z) (flat_bc p y y refl) turned);
@@ -57,14 +57,14 @@ near-inside p y z k turned less = record {
     first s x y e f h = omega (arith, ints, e, f, h)
 
 -- ---- how near is near enough for all triangles of a list
-abbrev size : Weighted → Triangle → ℕ
+abbrev pub size : Weighted → Triangle → ℕ
 size g t = unsigned_abs (weighted_side (corner_at t.a) (corner_at t.b) g) + unsigned_abs (weighted_side (corner_at t.b) (corner_at t.c) g) + unsigned_abs (weighted_side (corner_at t.c) (corner_at t.a) g)
 
-bound : Weighted → List Triangle → ℕ
+pub bound : Weighted → List Triangle → ℕ
 bound g [] = 0
 bound g (t ∷ ts) = size g t + bound g ts
 
-bounded : (g : Weighted) (ts : List Triangle) (k : ℕ) (t : Triangle) → slice_get ts k ≡ Some t → size g t ≤ bound g ts
+pub bounded : (g : Weighted) (ts : List Triangle) (k : ℕ) (t : Triangle) → slice_get ts k ≡ Some t → size g t ≤ bound g ts
 unfolding bound
 bounded g [] k t at = cc
 bounded g (u ∷ ts) zero t at = let same : u ≡ t = cc in first (size g u) (size g t) (bound g ts) (ap (size g) same)
@@ -77,7 +77,7 @@ bounded g (u ∷ ts) (suc k) t at = later (size g u) (size g t) (bound g ts) (bo
     later m n r h = omega (arith, h)
 
 -- what has the near point has p
-near-side : (a b p y z : Coords) (k : ℕ) → unsigned_abs (weighted_side a b (both y z)) < k → pos 0 ≤ℤ weighted_side a b (near p y z k) → pos 0 ≤ℤ side a b p
+pub near-side : (a b p y z : Coords) (k : ℕ) → unsigned_abs (weighted_side a b (both y z)) < k → pos 0 ≤ℤ weighted_side a b (near p y z k) → pos 0 ≤ℤ side a b p
 near-side a b p y z k less h = by_lt_z (side a b p) (pos 0)
     (λ lt. absurd (under (weighted_side a b (near p y z k)) (pos k *ℤ weighted_side a b (once p)) (side a b p *ℤ pos k) (weighted_side a b (both y z))
     (side-many a b k (once p) (both y z)) (ap (λ s. pos k *ℤ s) (weighted_side-once a b p) ∙ mul_comm (pos k) (side a b p))

@@ -11,6 +11,7 @@ ghost use Rattle.cdt_law.specs.Order.{OrderLaw};
 ghost use Rattle.cdt_law.specs.Patch.{PatchLaw};
 ghost use Rattle.cdt_law.specs.Point.{PointLaw};
 ghost use Rattle.cdt_law.specs.Stale.{ZoneLaw};
+ghost use Rattle.cdt_law.specs.Star.{StarLaw};
 ghost use Rattle.cdt_law.specs.Vertices.{VertexLaw};
 ghost use Rattle.cdt_law.specs.Laws.{EdgeLaw, FacetLaw, FirstLaw, LocalLaw, NetLaw, OnceLaw, UniqueLaw};
 
@@ -133,4 +134,10 @@ pub fn corner_law()
 /// points that the edit makes of the newer net's as its corners, and no others but far ones.
 pub fn vertex_law()
     ensures { VertexLaw }
+{}
+
+/// What an edit makes at a point that it adds, and destroys at one that it takes: the first has facets, and a newer net,
+/// which still has what is destroyed, has nothing else at the second.
+pub fn star_law()
+    ensures { StarLaw }
 {}
