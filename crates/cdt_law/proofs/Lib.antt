@@ -55,3 +55,4 @@ pub mod Renewed
 pub mod SharedCorners
 pub mod Vertices
 pub mod Stars
+pub mod EdgeCounts

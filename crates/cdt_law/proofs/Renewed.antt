@@ -74,7 +74,7 @@ edge-once net sheet e = less (times_in (rimmed net) e) (times_in (edges_in net) 
     less s n r e h = omega (arith, e, h)
 
 -- ---- the newest sheet, what is destroyed first
-abbrev regrouped : Net → List Triangle → Net
+abbrev pub regrouped : Net → List Triangle → Net
 regrouped net ts = record net { triangles = ts ++ without net ts }
 
 pub regrouped-alike : (net : Net) → IsSheet net → (ts : List Triangle) → ((a b c : Corner) → is_in ts a b c ≡ true → has net a b c ≡ true) → ((e : Edge) → times_among ts e ≤ 1) → AreAlike net (regrouped net ts)

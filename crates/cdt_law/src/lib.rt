@@ -4,6 +4,7 @@
 
 ghost use Rattle.cdt_law.specs.Boundary.{BoundaryLaw};
 ghost use Rattle.cdt_law.specs.Corners.{CornerLaw};
+ghost use Rattle.cdt_law.specs.EdgeCounts.{CountLaw};
 ghost use Rattle.cdt_law.specs.Enclose.{EncloseLaw};
 ghost use Rattle.cdt_law.specs.Flips.{DestroyedLaw, EditLaw, FallLaw, FlipLaw, KeptLaw};
 ghost use Rattle.cdt_law.specs.Hull.{HullLaw};
@@ -140,4 +141,10 @@ pub fn vertex_law()
 /// which still has what is destroyed, has nothing else at the second.
 pub fn star_law()
     ensures { StarLaw }
+{}
+
+/// The base and a newer net, which count alike over the edges of what an edit destroys, do so over the edges of what it
+/// makes.
+pub fn count_law()
+    ensures { CountLaw }
 {}
