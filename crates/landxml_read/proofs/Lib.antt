@@ -35,3 +35,4 @@ pub mod Placed
 pub mod Growing
 pub mod Gathered
 pub mod ListsRead
+pub mod Quiet
