@@ -56,3 +56,4 @@ pub mod SharedCorners
 pub mod Vertices
 pub mod Stars
 pub mod EdgeCounts
+pub mod KeptPieces

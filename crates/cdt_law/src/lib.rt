@@ -10,6 +10,7 @@ ghost use Rattle.cdt_law.specs.Flips.{DestroyedLaw, EditLaw, FallLaw, FlipLaw, K
 ghost use Rattle.cdt_law.specs.Hull.{HullLaw};
 ghost use Rattle.cdt_law.specs.Order.{OrderLaw};
 ghost use Rattle.cdt_law.specs.Patch.{PatchLaw};
+ghost use Rattle.cdt_law.specs.Pieces.{PieceLaw};
 ghost use Rattle.cdt_law.specs.Point.{PointLaw};
 ghost use Rattle.cdt_law.specs.Stale.{ZoneLaw};
 ghost use Rattle.cdt_law.specs.Star.{StarLaw};
@@ -147,4 +148,9 @@ pub fn star_law()
 /// makes.
 pub fn count_law()
     ensures { CountLaw }
+{}
+
+/// A piece of the newest net that the edit leaves in its planned net is an edge of what the edit makes of the newest.
+pub fn piece_law()
+    ensures { PieceLaw }
 {}
