@@ -45,57 +45,31 @@ abbrev Finds : Kind → ℕ → ℕ → Content → Type 0
 Finds k depth at x =
     (u : Option LinearUnit) (ss : List RawSurface) → holds_surfaces k ≡ true → gather (between u ss) (events k depth at no_word x) ≡ with_found u ss (elements k depth at x)
 
--- no element in a surface is a surface
-no_surface_in : (e : Found) → fits false e.kind ≡ true → surface_of e ≡ None
-no_surface_in e h = by e.kind h
+-- no element in a surface is a surface or has the unit
+none_in_surface : (e : Found) → fits false e.kind ≡ true → (surface_of e ≡ None) × (unit_in e ≡ None)
+none_in_surface e h = by e.kind h
   where
-    by : (k : Kind) → fits false k ≡ true → surface_of (of_kind e k) ≡ None
+    by : (k : Kind) → fits false k ≡ true → (surface_of (of_kind e k) ≡ None) × (unit_in (of_kind e k) ≡ None)
     by Outside h = cc
     by Root h = cc
     by Units h = cc
     by UnitOf h = cc
     by Surfaces h = cc
     by Surface h = cc
-    by SourceData h = refl
-    by Boundaries h = refl
-    by Boundary h = refl
-    by Breaklines h = refl
-    by Breakline h = refl
-    by DataPoints h = refl
-    by Triples h = refl
-    by Pairs h = refl
-    by Definition h = refl
-    by Points h = refl
-    by Point h = refl
-    by Faces h = refl
-    by Face h = refl
-    by Skipped h = refl
-
--- no element in a surface has the unit
-no_unit_in : (e : Found) → fits false e.kind ≡ true → unit_in e ≡ None
-no_unit_in e h = by e.kind h
-  where
-    by : (k : Kind) → fits false k ≡ true → unit_in (of_kind e k) ≡ None
-    by Outside h = cc
-    by Root h = cc
-    by Units h = cc
-    by UnitOf h = cc
-    by Surfaces h = cc
-    by Surface h = cc
-    by SourceData h = refl
-    by Boundaries h = refl
-    by Boundary h = refl
-    by Breaklines h = refl
-    by Breakline h = refl
-    by DataPoints h = refl
-    by Triples h = refl
-    by Pairs h = refl
-    by Definition h = refl
-    by Points h = refl
-    by Point h = refl
-    by Faces h = refl
-    by Face h = refl
-    by Skipped h = refl
+    by SourceData h = (refl, refl)
+    by Boundaries h = (refl, refl)
+    by Boundary h = (refl, refl)
+    by Breaklines h = (refl, refl)
+    by Breakline h = (refl, refl)
+    by DataPoints h = (refl, refl)
+    by Triples h = (refl, refl)
+    by Pairs h = (refl, refl)
+    by Definition h = (refl, refl)
+    by Points h = (refl, refl)
+    by Point h = (refl, refl)
+    by Faces h = (refl, refl)
+    by Face h = (refl, refl)
+    by Skipped h = (refl, refl)
 
 -- the elements of an element of a kind
 abbrev within : Kind → Found → List Found
@@ -113,8 +87,8 @@ surface_shown e u ss =
     let s : RawSurface = bare e.at name in
     let part : IsPart own (e.tag_end + 1) (end_of (e.tag_end + 1) e.inside) es [] [] = record { is = sym (append-nil es); early = λ offset h. refl; late = λ offset h. refl } in
     let counted : IsCounted [] s = record { triples = refl; pairs = refl } in
-    let no_units = nothing_made unit_in (fits false) surface_below no_unit_in Surface (λ n. fits_below false Surface n refl) e.depth (e.tag_end + 1) e.inside in
-    let no_surfaces = nothing_made surface_of (fits false) surface_below no_surface_in Surface (λ n. fits_below false Surface n refl) e.depth (e.tag_end + 1) e.inside in
+    let no_units = nothing_made unit_in (fits false) surface_below (λ found h. (none_in_surface found h).1) Surface (λ n. fits_below false Surface n refl) e.depth (e.tag_end + 1) e.inside in
+    let no_surfaces = nothing_made surface_of (fits false) surface_below (λ found h. (none_in_surface found h).0) Surface (λ n. fits_below false Surface n refl) e.depth (e.tag_end + 1) e.inside in
     let a = sym (ap (units_after u) no_units) in
     let b = sym (ap (λ xs. ss ++ added (effect_of own es) s ∷ xs) no_surfaces) in
     ap (closed Surface) (grows own u ss false Surface e.depth (e.tag_end + 1) e.inside [] [] s None refl part (λ z. refl) counted)
