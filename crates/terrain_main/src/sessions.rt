@@ -2,8 +2,9 @@
 
 ghost use Rattle.std.specs.Prelude.{◌≤◌, IfOk};
 
+use crate::line_session_texts::{CROSSINGS, LINES, RINGS};
 use crate::refusal_texts::{AFTER_DIAGONAL, AFTER_END, AFTER_JOINT, AFTER_POINT, AFTER_SQUARE};
-use crate::session_texts::{CROSSINGS, LINES, MEASURES, POINTS, RINGS};
+use crate::session_texts::{MEASURES, POINTS};
 use ground_io::{Link, MemLink};
 use ground_model::Limits;
 use ground_num::{Head, LinearUnit, Name, Origin, Thousandths};
