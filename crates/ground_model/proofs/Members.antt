@@ -1,7 +1,8 @@
 -- A facet is among those of a content exactly where its own test passes.
-use Rattle.std.proofs.Common.{◌≡◌, refl, sym, ap, ◌∙◌, List, [], ◌∷◌, ◌++◌, Bool, true, false, Some, None}
+use Rattle.std.proofs.Common.{◌≡◌, refl, sym, ap, ◌∙◌, List, [], ◌∷◌, ◌++◌, Bool, true, false, Some, None, arith}
 use Rattle.std.specs.Prelude.{◌&&◌, ◌||◌, Option, if◌then◌else◌, nat_eq}
 use Rattle.std.specs.List.{list_any, cons_option, flat_map, filter_map}
+use Rattle.std.proofs.lemmas.Bool.{and_parts, eqb-true, eq-eqb}
 use Rattle.ground_model.specs.declared.facet.Facet.{Facet}
 use Rattle.ground_model.specs.declared.piece.Piece.{Piece}
 use Rattle.ground_model.specs.Place.{Coords, is_same}
@@ -11,6 +12,7 @@ use Rattle.ground_model.specs.Content.{Content, points_of, pieces}
 use Rattle.ground_model.specs.Tri.{is_facet, count_at, facet_with, facets, tri, is_facet_over, is_facet_of}
 use Rattle.ground_model.specs.Loops.{facet_at, facets_on, facets_from, facets_by_loops}
 use Rattle.ground_model.proofs.Loops.{facets-loops}
+use Rattle.ground_model.proofs.LinePieces.{is_same_itself}
 use Rattle.ground_model.proofs.Ties.{same_of_is_same}
 
 -- ---- whether some element passes, of lists made of others
@@ -60,6 +62,25 @@ picked p g (x ∷ xs) = ap (λ k. is_same p x && g x || k) (picked p g xs) ∙ e
     either : (s i x y : Bool) → (s ≡ true → x ≡ y) → (s && x || i && y) ≡ ((s || i) && y)
     either false i x y h = refl
     either true i x y h = ap (λ k. k || i && y) (h refl) ∙ absorbed i y
+
+-- ---- a facet and its test
+pub same-facet : (f g : Facet) → is_same_facet f g ≡ true → f ≡ g
+same-facet f g e =
+    let e5 = and_parts (is_same f.a g.a && is_same f.b g.b && is_same f.c g.c && nat_eq f.ab g.ab && nat_eq f.bc g.bc) (nat_eq f.ca g.ca) e in
+    let e4 = and_parts (is_same f.a g.a && is_same f.b g.b && is_same f.c g.c && nat_eq f.ab g.ab) (nat_eq f.bc g.bc) e5.0 in
+    let e3 = and_parts (is_same f.a g.a && is_same f.b g.b && is_same f.c g.c) (nat_eq f.ab g.ab) e4.0 in
+    let e2 = and_parts (is_same f.a g.a && is_same f.b g.b) (is_same f.c g.c) e3.0 in
+    let e1 = and_parts (is_same f.a g.a) (is_same f.b g.b) e2.0 in
+    let a = same_of_is_same f.a g.a e1.0 in
+    let b = same_of_is_same f.b g.b e1.1 in
+    let c = same_of_is_same f.c g.c e2.1 in
+    let ab = eqb-true f.ab g.ab e3.1 in
+    let bc = eqb-true f.bc g.bc e4.1 in
+    let ca = eqb-true f.ca g.ca e5.1 in
+    λ i. record { a = a i; b = b i; c = c i; ab = ab i; bc = bc i; ca = ca i }
+
+pub facet-itself : (f : Facet) → is_same_facet f f ≡ true
+facet-itself f = grind (arith, is_same_itself f.a, is_same_itself f.b, is_same_itself f.c, eq-eqb f.ab f.ab refl, eq-eqb f.bc f.bc refl, eq-eqb f.ca f.ca refl)
 
 -- ---- the facets
 regrouped : (x y z t u : Bool) → (x && (y && (z && (t && u)))) ≡ (x && y && z && t && u)

@@ -1,5 +1,5 @@
 -- What a surface is made of: its points and its lines.
-use Rattle.std.specs.Prelude.{ℕ, ℤ, List, Option}
+use Rattle.std.specs.Prelude.{ℕ, ℤ, List, Option, Bool, true, false}
 use Rattle.std.specs.FinMap as map
 use Rattle.ground_model.specs.declared.edit.Edit.{Edit}
 use Rattle.ground_model.specs.declared.edit.Edit.TheVariants.{AddPoint, RemovePoint, SetLevel, AddLine, RemoveLine}
@@ -24,6 +24,14 @@ after c (RemovePoint p) = record c { points = map.remove c.points p }
 after c (SetLevel p z) = record c { points = map.insert c.points p z }
 after c (AddLine kind places) = record c { table = with_line c.table (record { kind = kind; places = places }) }
 after c (RemoveLine id) = record c { table = without_line c.table id.0 }
+
+-- whether the edit adds a line: the one that takes room for its places before it is found lawful
+abbrev pub is_new_line : Edit → Bool
+is_new_line (AddLine kind places) = true
+is_new_line (AddPoint p z) = false
+is_new_line (RemovePoint p) = false
+is_new_line (SetLevel p z) = false
+is_new_line (RemoveLine id) = false
 
 -- the points, in order
 abbrev pub points_of : Content → List Coords

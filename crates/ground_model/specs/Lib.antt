@@ -7,6 +7,7 @@ pub mod Line
 pub mod Table
 pub mod Crossings
 pub mod Content
+pub mod Limits
 pub mod Codes
 pub mod Wall
 pub mod Tri

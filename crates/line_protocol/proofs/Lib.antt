@@ -1,4 +1,3 @@
-pub mod Appended
 pub mod Digits
 pub mod Faults
 pub mod Scans

@@ -2,8 +2,7 @@
 use Rattle.std.specs.Prelude.{◌≡◌, ℕ, Bool, true, false, List, [], ◌∷◌, map, Option, Some, None, Result, Ok, Err, is_some, option_map, option_and_then}
 use Rattle.std.specs.List.{list_all}
 use Rattle.ground_num.specs.declared.head.Origin.{Origin}
-use Rattle.ground_model.specs.declared.edit.Edit.{Edit}
-use Rattle.ground_model.specs.declared.edit.Edit.TheVariants.{AddLine}
+use Rattle.ground_model.specs.Content.{is_new_line}
 use Rattle.ground_model.specs.Place.{Coords}
 use Rattle.line_protocol.specs.declared.read.LineFault.{LineFault}
 use Rattle.line_protocol.specs.declared.read.LineFault.TheVariants as faults
@@ -16,13 +15,9 @@ use Rattle.line_protocol.specs.Fault.{IsFaultOffset}
 use Rattle.line_protocol.specs.Within.{is_place, from_origin, where_true, request_of}
 
 -- whether memory is taken while the line is read: for the places of a new line
-abbrev pub has_places : Edit → Bool
-has_places (AddLine kind ps) = true
-has_places edit = false
-
 abbrev pub takes_memory_early : Request → Bool
-takes_memory_early (Plan edit) = has_places edit
-takes_memory_early (Apply edit) = has_places edit
+takes_memory_early (Plan edit) = is_new_line edit
+takes_memory_early (Apply edit) = is_new_line edit
 takes_memory_early request = false
 
 -- A part of a line that says `found`, of which `within` is the value where it is within its limits. Only for such a value, and only where `early` says so, memory is taken.

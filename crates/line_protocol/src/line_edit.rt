@@ -3,9 +3,10 @@
 ghost use Rattle.std.specs.Prelude.{◌≡◌, ◌<◌, ◌^◌, ◌&&◌, Some, None, IfSome, MatchOption, option_map, option_and_then, length};
 ghost use Rattle.ground_num.specs.Decimal.{IsWithin};
 ghost use Rattle.ground_num.specs.Head.{IsOrigin};
+ghost use Rattle.ground_model.specs.Content.{is_new_line};
 ghost use Rattle.line_protocol.specs.Grammar.{words_of, places, kind_named, line_edit};
 ghost use Rattle.line_protocol.specs.Within.{is_place, from_origin, edit_within, places_within};
-ghost use Rattle.line_protocol.specs.Reading.{IsRead, IsPair, always, never, checked, has_places};
+ghost use Rattle.line_protocol.specs.Reading.{IsRead, IsPair, always, never, checked};
 
 use crate::place::{Coordinates, place_from, read_coordinates};
 use crate::words::{Unread, first_word};
@@ -116,7 +117,7 @@ fn read_kind(word: &[u8]) -> Option<LineKind>
 #[tactic(auto, unfolding(crate::specs::Grammar::line_edit, crate::specs::Within::edit_within))]
 pub(crate) fn read_line_edit(alloc: Global, text: &[u8], origin: &Origin) -> Result<Edit, Unread>
     requires { IsOrigin origin.now }
-    ensures { IsRead (line_edit (words_of text.now)) (edit_within origin.now) has_places result }
+    ensures { IsRead (line_edit (words_of text.now)) (edit_within origin.now) is_new_line result }
 {
     let Some((word, rest)) = first_word(text) else {
         return Err(Unread::NoSuch);

@@ -2,10 +2,11 @@
 
 ghost use Rattle.std.specs.Prelude.{◌<◌, ◌^◌, ◌∷◌, [], length, option_map};
 ghost use Rattle.ground_num.specs.Head.{IsOrigin};
+ghost use Rattle.ground_model.specs.Content.{is_new_line};
 ghost use Rattle.line_protocol.specs.Grammar.{words_of, place, spot, level, id, edit, request, spoken};
 ghost use Rattle.line_protocol.specs.Spoken.{AddPoint, RemovePoint, SetLevel, RemoveLine, Plan, Apply, Level, Contour, Volume};
 ghost use Rattle.line_protocol.specs.Within.{edit_within, request_within};
-ghost use Rattle.line_protocol.specs.Reading.{IsRead, has_places, takes_memory_early, Reads};
+ghost use Rattle.line_protocol.specs.Reading.{IsRead, takes_memory_early, Reads};
 
 use crate::fault::fault_offset;
 use crate::line_edit::read_line_edit;
@@ -37,7 +38,7 @@ pub enum LineFault {
 #[tactic(auto, unfolding(crate::specs::Within::edit_within))]
 fn read_addition(text: &[u8], origin: &Origin) -> Result<Edit, Unread>
     requires { IsOrigin origin.now }
-    ensures { IsRead (option_map (λ s. AddPoint s.0 s.1) (spot (words_of text.now))) (edit_within origin.now) has_places result }
+    ensures { IsRead (option_map (λ s. AddPoint s.0 s.1) (spot (words_of text.now))) (edit_within origin.now) is_new_line result }
 {
     match read_spot(text, origin) {
         Ok((place, level)) => Ok(Edit::AddPoint(place, level)),
@@ -49,7 +50,7 @@ fn read_addition(text: &[u8], origin: &Origin) -> Result<Edit, Unread>
 #[tactic(auto, unfolding(crate::specs::Within::edit_within))]
 fn read_removal(text: &[u8], origin: &Origin) -> Result<Edit, Unread>
     requires { IsOrigin origin.now }
-    ensures { IsRead (option_map RemovePoint (place (words_of text.now))) (edit_within origin.now) has_places result }
+    ensures { IsRead (option_map RemovePoint (place (words_of text.now))) (edit_within origin.now) is_new_line result }
 {
     match read_place(text, origin) {
         Ok(place) => Ok(Edit::RemovePoint(place)),
@@ -61,7 +62,7 @@ fn read_removal(text: &[u8], origin: &Origin) -> Result<Edit, Unread>
 #[tactic(auto, unfolding(crate::specs::Within::edit_within))]
 fn read_set(text: &[u8], origin: &Origin) -> Result<Edit, Unread>
     requires { IsOrigin origin.now }
-    ensures { IsRead (option_map (λ s. SetLevel s.0 s.1) (spot (words_of text.now))) (edit_within origin.now) has_places result }
+    ensures { IsRead (option_map (λ s. SetLevel s.0 s.1) (spot (words_of text.now))) (edit_within origin.now) is_new_line result }
 {
     match read_spot(text, origin) {
         Ok((place, level)) => Ok(Edit::SetLevel(place, level)),
@@ -72,7 +73,7 @@ fn read_set(text: &[u8], origin: &Origin) -> Result<Edit, Unread>
 // The number of a line to take away.
 #[tactic(auto, unfolding(crate::specs::Within::edit_within))]
 fn read_line_removal(text: &[u8], origin: &Origin) -> Result<Edit, Unread>
-    ensures { IsRead (option_map RemoveLine (id (words_of text.now))) (edit_within origin.now) has_places result }
+    ensures { IsRead (option_map RemoveLine (id (words_of text.now))) (edit_within origin.now) is_new_line result }
 {
     match first_word(text) {
         Some(_) => Err(Unread::NoSuch),
@@ -87,7 +88,7 @@ fn read_line_removal(text: &[u8], origin: &Origin) -> Result<Edit, Unread>
 #[tactic(auto, unfolding(crate::specs::Grammar::edit))]
 fn read_edit(alloc: Global, text: &[u8], origin: &Origin) -> Result<Edit, Unread>
     requires { IsOrigin origin.now }
-    ensures { IsRead (edit (words_of text.now)) (edit_within origin.now) has_places result }
+    ensures { IsRead (edit (words_of text.now)) (edit_within origin.now) is_new_line result }
 {
     let Some((word, rest)) = first_word(text) else {
         return Err(Unread::NoSuch);

@@ -5,7 +5,7 @@ ghost use Rattle.turn_lock.specs.Insides.{removal};
 ghost use Rattle.turn_lock.specs.Seat.{numbers_of, IsLast, AreAll};
 
 use ground_model::{Edit, Entry, Limits, LineId};
-use ground_num::{Head, LinearUnit, Name, Origin, Thousandths};
+use ground_num::{Head, Name};
 use std::alloc::Global;
 use std::process::Abort;
 use std::sync::Wait;
@@ -140,14 +140,8 @@ fn new_lock<R: Abort>(rt: &R, alloc: Global, seats: u16) -> (TurnLock<Book>, Vec
     let Ok(name) = Name::from_bytes(alloc, b"book") else {
         panic!(rt; "memory")
     };
-    let zero = Thousandths(0);
-    let head = Head {
-        name,
-        unit: LinearUnit::Meter,
-        origin: Origin { n: zero, e: zero },
-    };
     let book = Book {
-        head,
+        head: Head::plain(name),
         limits: Limits::FULL,
         entries: Vec::new(alloc),
     };

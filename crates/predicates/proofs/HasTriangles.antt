@@ -66,7 +66,7 @@ any-at f (y ∷ xs) (suc k) x at e = or_right (f y) (list_any f xs) (any-at f xs
 three_same : (t : Triangle) → (is_same_corner t.a t.a && is_same_corner t.b t.b && is_same_corner t.c t.c) ≡ true
 three_same t = and_from (is_same_corner t.a t.a && is_same_corner t.b t.b) (is_same_corner t.c t.c) (and_from (is_same_corner t.a t.a) (is_same_corner t.b t.b) (corner-self t.a) (corner-self t.b)) (corner-self t.c)
 
-turn-has : (t : Triangle) (a b c : Corner) → IsTurn t a b c → is_triangle a b c t ≡ true
+pub turn-has : (t : Triangle) (a b c : Corner) → IsTurn t a b c → is_triangle a b c t ≡ true
 turn-has t a b c Still = or_left _ _ (or_left _ _ (three_same t))
 turn-has t a b c Once = or_right _ _ (three_same t)
 turn-has t a b c Twice = or_left _ _ (or_right _ _ (three_same t))

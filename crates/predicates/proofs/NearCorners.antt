@@ -68,7 +68,7 @@ pub data Leaves (a b p : Coords) (g : Weighted) : Type 0 where
   Left : pos 0 <ℤ side a b p → Leaves a b p g
   Onward : side a b p ≡ pos 0 → pos 0 <ℤ weighted_side a b g → Leaves a b p g
 
-leaves-left : (a b p : Coords) (g : Weighted) (k : ℕ) → unsigned_abs (weighted_side a b g) < k → Leaves a b p g → pos 0 <ℤ weighted_side a b (joined (repeated (pos k) (once p)) g)
+pub leaves-left : (a b p : Coords) (g : Weighted) (k : ℕ) → unsigned_abs (weighted_side a b g) < k → Leaves a b p g → pos 0 <ℤ weighted_side a b (joined (repeated (pos k) (once p)) g)
 leaves-left a b p g k less (Left h) = many-left a b k (once p) g less (positive-along (weighted_side a b (once p)) (side a b p) (weighted_side-once a b p) h)
 leaves-left a b p g k less (Onward e h) = many-within a b k (once p) g (level-up (weighted_side a b (once p)) (weighted_side-once a b p ∙ e)) h
 

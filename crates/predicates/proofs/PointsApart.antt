@@ -116,7 +116,7 @@ on-edge net closed p hp y z a b c s t on = by_lt_z (pos 0) (corner_side a b y)
         moved (inr (inr e)) = absurd (never-level (corner_side b a o.third) turned_u (ap (corner_side b a) (sym e) ∙ flat_u))
 
 -- ---- p is on two edges: it is their corner
-place-corner : (z : Corner) (p : Coords) → IsValid z → IsPlace p → p ≡ corner_at z → At p ≡ z
+pub place-corner : (z : Corner) (p : Coords) → IsValid z → IsPlace p → p ≡ corner_at z → At p ≡ z
 place-corner z p (Place q h) hp e = ap At e
 place-corner z p Far0 hp e = absurd (never-level (side f0 f1 p) (far-side01 p hp) (flat_ca f0 f1 p e))
 place-corner z p Far1 hp e = absurd (never-level (side f0 f1 p) (far-side01 p hp) (flat_bc f0 f1 p (sym e)))
@@ -130,7 +130,7 @@ north-of : (a b c p : Coords) → side a b c *ℤ (p.n -ℤ a.n) ≡ side a b p 
 unfolding side
 north-of a b c p = ring (a.e ∷ a.n ∷ b.e ∷ b.n ∷ c.e ∷ c.n ∷ p.e ∷ p.n ∷ []) (sideE 0 1 2 ⊗ (var 7 ⊖ var 1)) (sideE 0 1 3 ⊗ (var 5 ⊖ var 1) ⊕ sideE 2 0 3 ⊗ (var 3 ⊖ var 1)) refl
 
-at-corner : (a b c p : Coords) → pos 0 <ℤ side a b c → side a b p ≡ pos 0 → side c a p ≡ pos 0 → p ≡ a
+pub at-corner : (a b c p : Coords) → pos 0 <ℤ side a b c → side a b p ≡ pos 0 → side c a p ≡ pos 0 → p ≡ a
 at-corner a b c p turned ab ca =
     same_coords p a (same p.e a.e (side a b c) (side a b p *ℤ (c.e -ℤ a.e)) (side c a p *ℤ (b.e -ℤ a.e)) (east-of a b c p) turned (zero-times (side a b p) (c.e -ℤ a.e) ab) (zero-times (side c a p) (b.e -ℤ a.e) ca))
     (same p.n a.n (side a b c) (side a b p *ℤ (c.n -ℤ a.n)) (side c a p *ℤ (b.n -ℤ a.n)) (north-of a b c p) turned (zero-times (side a b p) (c.n -ℤ a.n) ab) (zero-times (side c a p) (b.n -ℤ a.n) ca))

@@ -16,9 +16,9 @@ use Rattle.line_protocol.specs.Spoken.{Spoken}
 use Rattle.line_protocol.specs.Grammar.{spoken}
 use Rattle.line_protocol.specs.Fault.{IsFaultOffset}
 use Rattle.line_protocol.specs.Within.{request_within, request_of}
-use Rattle.line_protocol.specs.Reading.{has_places, takes_memory_early}
+use Rattle.line_protocol.specs.Reading.{takes_memory_early}
 use Rattle.turn_lock.specs.Setting.{Setting, setting}
-use Rattle.store.specs.Outcomes.{is_new_line}
+use Rattle.ground_model.specs.Content.{is_new_line}
 use Rattle.session.specs.Told.{done_front, pending_after}
 use Rattle.session.specs.Transcript.{IsFaultReply, takes_memory, IsAnswer, IsAnswerWithin, AnswersLine}
 use Rattle.session.specs.Talking.{Position, Serves, ServesLine}
@@ -70,17 +70,9 @@ or_first : (x y : Bool) → x ≡ true → (x || y) ≡ true
 or_first true y e = refl
 or_first false y e = cc
 
--- an edit whose places are read is a new line
-new_line : (edit : Edit) → has_places edit ≡ true → is_new_line edit ≡ true
-new_line (edits.AddLine kind places) e = refl
-new_line (edits.AddPoint p z) e = e
-new_line (edits.RemovePoint p) e = e
-new_line (edits.SetLevel p z) e = e
-new_line (edits.RemoveLine id) e = e
-
 -- a request for which memory is taken while its line is read takes memory
 early_takes : (limits : Limits) (h : List Entry) (pending : Option Pending) (request : Request) → takes_memory_early request ≡ true → takes_memory limits h pending request ≡ true
-early_takes limits h pending (asks.Plan edit) e = or_first (is_new_line edit) (is_none (refusal (content_of h) (length h) limits edit)) (new_line edit e)
+early_takes limits h pending (asks.Plan edit) e = or_first (is_new_line edit) (is_none (refusal (content_of h) (length h) limits edit)) e
 early_takes limits h pending (asks.Apply edit) e = refl
 early_takes limits h pending asks.Sync e = cc
 early_takes limits h pending asks.Commit e = cc

@@ -8,7 +8,7 @@ use Rattle.ground_io.proofs.Ordering.{adds_none, goes_on, order_kept}
 use Rattle.ground_model.specs.declared.entry.Entry.{Entry}
 use Rattle.ground_model.specs.History.{IsLegal}
 use Rattle.line_protocol.specs.declared.reply.Reply.{Reply}
-use Rattle.line_protocol.proofs.Appended.{appends_none, appends_both}
+use Rattle.ground_io.proofs.Texts.{appends_none, appends_both}
 use Rattle.turn_lock.specs.Setting.{Setting, setting}
 use Rattle.ground_model.specs.Answer.{Pending}
 use Rattle.session.specs.Lines.{text_of, ended, unfinished, whole_lines}

@@ -2,8 +2,7 @@
 use Rattle.std.proofs.Common.{◌≡◌, ◌≢◌, ℕ, zero, suc, ◌+◌, ◌≤◌, inl, inr, List, [], ◌∷◌, ◌++◌, length, length-append, take, Bool, true, false, cond, None, Some, refl, sym, ap, subst, ◌∙◌, arith}
 use Rattle.std.proofs.Math.Seq.{take-append_seam}
 use Rattle.std.proofs.lemmas.List.{take-append-le, take_all}
-use Rattle.std.proofs.lemmas.Bool.{and_parts, eqb-true, eq-eqb}
-use Rattle.std.specs.Prelude.{ℤ, Option, map, not, ◌&&◌, ◌||◌, nat_eq, slice_get, option_map, option_and_then, unwrap_or, is_some}
+use Rattle.std.specs.Prelude.{ℤ, Option, map, not, ◌&&◌, ◌||◌, slice_get, option_map, option_and_then, unwrap_or, is_some}
 use Rattle.std.specs.declared.cmp.Ordering.{Ordering}
 use Rattle.std.specs.declared.cmp.Ordering.TheVariants.{Less, Equal, Greater}
 use Rattle.std.specs.BTreeMap.{is_at}
@@ -22,7 +21,7 @@ use Rattle.ground_model.specs.declared.line.LineId.{LineId}
 use Rattle.ground_model.specs.declared.line.LineKind.{LineKind}
 use Rattle.ground_model.specs.declared.mark.Mark.{Mark}
 use Rattle.ground_model.specs.declared.mark.Mark.TheVariants.{Point, Tri}
-use Rattle.ground_model.specs.Place.{Coords, place_cmp, is_same}
+use Rattle.ground_model.specs.Place.{Coords, place_cmp}
 use Rattle.ground_model.specs.Mark.{is_same_facet, is_among}
 use Rattle.ground_model.specs.Content.{Content, empty, after, level_of}
 use Rattle.ground_model.specs.Table.{no_lines}
@@ -30,8 +29,7 @@ use Rattle.ground_model.specs.Tri.{facets, tri, is_facet_of}
 use Rattle.ground_model.specs.History.{content_of, is_new_level, is_made, makes, born_by, born}
 use Rattle.ground_model.proofs.Contents.{places_total}
 use Rattle.ground_model.proofs.Elements.{In, any_from}
-use Rattle.ground_model.proofs.Members.{is_among-tri}
-use Rattle.ground_model.proofs.Ties.{same_of_is_same}
+use Rattle.ground_model.proofs.Members.{same-facet, facet-itself, is_among-tri}
 use Rattle.store.specs.declared.births.Births.{Births}
 use Rattle.store.specs.Births.{AreBirths, point_birth, facet_birth, renewed, renewed_point, born_after}
 use Rattle.store.proofs.Causes.{position-from}
@@ -150,30 +148,6 @@ map-members : {X Y : Type 0} {f g : X → Y} (xs : List X) → ((x : X) → In x
 map-members [] h = refl
 map-members (x ∷ xs) h = λ i. h x (inl refl) i ∷ map-members xs (λ y k. h y (inr k)) i
 
-same_facet : (f g : Facet) → is_same_facet f g ≡ true → f ≡ g
-same_facet f g e =
-    let e5 = and_parts (is_same f.a g.a && is_same f.b g.b && is_same f.c g.c && nat_eq f.ab g.ab && nat_eq f.bc g.bc) (nat_eq f.ca g.ca) e in
-    let e4 = and_parts (is_same f.a g.a && is_same f.b g.b && is_same f.c g.c && nat_eq f.ab g.ab) (nat_eq f.bc g.bc) e5.0 in
-    let e3 = and_parts (is_same f.a g.a && is_same f.b g.b && is_same f.c g.c) (nat_eq f.ab g.ab) e4.0 in
-    let e2 = and_parts (is_same f.a g.a && is_same f.b g.b) (is_same f.c g.c) e3.0 in
-    let e1 = and_parts (is_same f.a g.a) (is_same f.b g.b) e2.0 in
-    let a = same_of_is_same f.a g.a e1.0 in
-    let b = same_of_is_same f.b g.b e1.1 in
-    let c = same_of_is_same f.c g.c e2.1 in
-    let ab = eqb-true f.ab g.ab e3.1 in
-    let bc = eqb-true f.bc g.bc e4.1 in
-    let ca = eqb-true f.ca g.ca e5.1 in
-    λ i. record { a = a i; b = b i; c = c i; ab = ab i; bc = bc i; ca = ca i }
-
-same-itself : (p : Coords) → is_same p p ≡ true
-same-itself p =
-    let e = (Decides-int_eq p.e p.e).1 refl in
-    let n = (Decides-int_eq p.n p.n).1 refl in
-    (λ i. e i && n i)
-
-facet-itself : (f : Facet) → is_same_facet f f ≡ true
-facet-itself f = grind (arith, same-itself f.a, same-itself f.b, same-itself f.c, eq-eqb f.ab f.ab refl, eq-eqb f.bc f.bc refl, eq-eqb f.ca f.ca refl)
-
 -- each of the facets passes its own test
 is_facet-member : (c : Content) (f : Facet) → In f (tri c) → is_facet_of c f ≡ true
 unfolding is_among
@@ -202,7 +176,7 @@ module _ (c : Content) (birth : Mark → ℕ) (b : Births) (are : AreBirths c bi
   facet-birth f =
       ap (λ items. option_and_then (slice_get items) (position (is_same_facet f) (tri c))) are.facets
       ∙ ap (option_and_then (slice_get (map (λ g. birth (Tri g)) (tri c)))) (position_from-zero (is_same_facet f) (tri c))
-      ∙ first-birth (λ g. birth (Tri g)) (is_same_facet f) f (λ g e. same_facet f g e) (tri c)
+      ∙ first-birth (λ g. birth (Tri g)) (is_same_facet f) f (λ g e. same-facet f g e) (tri c)
       ∙ ap (λ t. cond t (Some (birth (Tri f))) None) (is_among-tri c f)
 
   -- those of the facets of the content after an edit

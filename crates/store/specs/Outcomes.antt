@@ -1,23 +1,15 @@
 -- What an edit comes to on a version.
-use Rattle.std.specs.Prelude.{◌≡◌, Bool, true, false, ◌||◌, List, length, None, Some, is_none}
+use Rattle.std.specs.Prelude.{◌≡◌, Bool, ◌||◌, List, length, None, Some, is_none}
 use Rattle.ground_model.specs.declared.edit.Edit.{Edit}
-use Rattle.ground_model.specs.declared.edit.Edit.TheVariants.{AddPoint, RemovePoint, SetLevel, AddLine, RemoveLine}
 use Rattle.ground_model.specs.declared.entry.Entry.{Entry}
 use Rattle.ground_model.specs.declared.limits.Limits.{Limits}
+use Rattle.ground_model.specs.Content.{is_new_line}
 use Rattle.ground_model.specs.History.{content_of}
 use Rattle.ground_model.specs.Refusal.{refusal}
 use Rattle.turn_lock.specs.declared.journal.Journal.{Journal}
 use Rattle.store.specs.declared.outcome.Outcome.{Outcome}
 use Rattle.store.specs.declared.outcome.Outcome.TheVariants.{Lawful, Refused}
 use Rattle.store.specs.Versions.{newest_refusal, IsMadeBy}
-
--- whether it is a new line
-abbrev pub is_new_line : Edit → Bool
-is_new_line (AddLine kind places) = true
-is_new_line (AddPoint p z) = false
-is_new_line (RemovePoint p) = false
-is_new_line (SetLevel p z) = false
-is_new_line (RemoveLine id) = false
 
 -- whether trying the edit takes memory: a new line takes some before it is known whether it is lawful, any other edit only where it is
 abbrev pub takes_room : Limits → List Entry → Edit → Bool

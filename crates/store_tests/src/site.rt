@@ -8,7 +8,7 @@ ghost use Rattle.session.specs.Sessions.{takes_turn};
 
 use ground_io::MemSink;
 use ground_model::Limits;
-use ground_num::{Head, LinearUnit, Name, Origin, Thousandths};
+use ground_num::{Head, Name};
 use line_protocol::{LineFault, Reply, Request, put_reply, read_request};
 use page_vec::Steps;
 use session::{Session, needs_turn, own_step, turn_step};
@@ -64,24 +64,11 @@ impl Model for Site {
     ghost invariant = { λ s. IsPrefix s.a.journal s.store.journal × IsPrefix s.b.journal s.store.journal × IsPrefix s.c.journal s.store.journal };
 }
 
-fn zero() -> Origin
-    ensures { IsOrigin result }
-{
-    Origin {
-        n: Thousandths(0),
-        e: Thousandths(0),
-    }
-}
-
 /// The head of each surface here.
 pub(crate) fn head(alloc: Global) -> Result<Head, Fail>
     ensures { IfOk result (λ head. IsOrigin head.origin) }
 {
-    Ok(Head {
-        name: Name::from_bytes(alloc, b"ground")?,
-        unit: LinearUnit::Meter,
-        origin: zero(),
-    })
+    Ok(Head::plain(Name::from_bytes(alloc, b"ground")?))
 }
 
 fn ground(alloc: Global, limits: Limits) -> Result<Store, Fail> {

@@ -1,6 +1,8 @@
 -- A session that never began, out of memory.
 use Rattle.std.proofs.Common.{arith, ◌^◌, ◌<◌, ℕ, List, [], length, refl}
 use Rattle.std.proofs.lemmas.List.Elements.{All-nil}
+use Rattle.std.specs.Prelude.{codes}
+use Rattle.ground_num.specs.Head.{plain_head}
 use Rattle.ground_io.specs.Wires.{WireView}
 use Rattle.turn_lock.specs.Setting.{Setting}
 use Rattle.ground_model.specs.declared.limits.Limits.{Limits}
@@ -10,7 +12,7 @@ use Rattle.session.proofs.Consumed.{consumes_none}
 use Rattle.session.proofs.Sessions.{talking_starts}
 use Rattle.session.proofs.Ends.{ends_memory}
 use Rattle.terrain_main.specs.declared.status.Status.TheVariants as statuses
-use Rattle.terrain_main.specs.Commands.{ground_head, RunsTalk}
+use Rattle.terrain_main.specs.Commands.{RunsTalk}
 
 full : Limits
 full = record {
@@ -29,7 +31,7 @@ full = record {
 pub without_memory : (wire : WireView) → RunsTalk wire wire statuses.Memory
 unfolding full
 without_memory wire =
-    let set : Setting = record { head = ground_head; limits = full } in
+    let set : Setting = record { head = plain_head (codes "ground"); limits = full } in
     record {
       set = set;
       ground = record { head = refl; limits = record { points = refl; lines = refl; places = refl; vertices = refl; log = refl } };

@@ -1,19 +1,16 @@
 -- Which words are a command, and how the program ends.
-use Rattle.std.specs.Prelude.{◌≡◌, ℕ, ◌-◌, ◌^◌, pos, ◌&&◌, nat_le, if◌then◌else◌, List, [], ◌∷◌, ◌++◌, codes, string_bytes, bytes_eq, Option, None, Some, Result}
+use Rattle.std.specs.Prelude.{◌≡◌, ℕ, ◌-◌, ◌^◌, ◌&&◌, nat_le, if◌then◌else◌, List, [], ◌∷◌, ◌++◌, codes, string_bytes, bytes_eq, Option, None, Some, Result}
 use Rattle.std.specs.Fmt.{decimal}
 use Rattle.std.specs.Str.Parse.{digits_value}
 use Rattle.std.specs.Io.KnownBytes.{Appends}
 use Rattle.std.specs.declared.string.String.{String}
 use Rattle.std.specs.declared.alloc.Global.{Global}
-use Rattle.ground_num.specs.declared.head.Head.{Head}
-use Rattle.ground_num.specs.declared.head.LinearUnit.TheVariants.{Meter}
 use Rattle.ground_io.specs.Causes.{HasCause, Rose}
 use Rattle.ground_io.specs.Streams.{WritesText, AppendsSome}
 use Rattle.ground_io.specs.Wires.{WireView}
 use Rattle.ground_io.specs.declared.fault.Failed.{Failed}
 use Rattle.ground_model.specs.declared.entry.Entry.{Entry}
-use Rattle.ground_model.specs.declared.limits.Limits.{Limits}
-use Rattle.turn_lock.specs.Setting.{Setting, setting}
+use Rattle.turn_lock.specs.Setting.{Setting, setting, IsPlain}
 use Rattle.turn_lock.specs.declared.journal.Journal.{Journal}
 use Rattle.session.specs.Talk.{Talk}
 use Rattle.session.specs.declared.conversation.Ended.{Ended}
@@ -74,21 +71,9 @@ code_of statuses.Cut = 12
 abbrev pub fault_line : List ℕ
 fault_line = codes "fault usage" ++ 10 ∷ []
 
-abbrev pub ground_head : Head
-ground_head = record { name = codes "ground"; unit = Meter; origin = record { n = record { 0 = pos 0 }; e = record { 0 = pos 0 } } }
-
--- the limits of every program
-pub record AreFull (limits : Limits) : Type 0 where
-  pub points : limits.points ≡ 2 ^ 20
-  pub lines : limits.lines ≡ 65535
-  pub places : limits.places ≡ 65536
-  pub vertices : limits.vertices ≡ 2 ^ 20
-  pub log : limits.log ≡ 2 ^ 24
-
 -- the surface of `talk`
-pub record IsGround (set : Setting) : Type 0 where
-  pub head : set.head ≡ ground_head
-  pub limits : AreFull set.limits
+abbrev pub IsGround : Setting → Type 0
+IsGround = IsPlain (codes "ground")
 
 -- the journal of that surface without entries
 abbrev pub IsEmptyGround : Journal → Type 0

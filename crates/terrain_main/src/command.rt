@@ -16,7 +16,7 @@ use crate::status::Status;
 use crate::words::{Command, command_of};
 use ground_io::{Pair, Sink, Source, write_all};
 use ground_model::Limits;
-use ground_num::{Head, LinearUnit, Name, Origin, Thousandths};
+use ground_num::{Head, Name};
 use session::{Ended, talk};
 use std::alloc::{AllocError, Global};
 use store::Store;
@@ -31,15 +31,7 @@ fn empty_ground(alloc: Global) -> Result<Store, AllocError>
     let Ok(name) = Name::from_bytes(alloc, b"ground") else {
         return Err(AllocError);
     };
-    let head = Head {
-        name,
-        unit: LinearUnit::Meter,
-        origin: Origin {
-            n: Thousandths(0),
-            e: Thousandths(0),
-        },
-    };
-    Store::empty(alloc, head, Limits::FULL)
+    Store::empty(alloc, Head::plain(name), Limits::FULL)
 }
 
 // A session over the two streams, on this surface.

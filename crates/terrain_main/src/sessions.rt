@@ -7,7 +7,7 @@ use crate::refusal_texts::{AFTER_DIAGONAL, AFTER_END, AFTER_JOINT, AFTER_POINT, 
 use crate::session_texts::{MEASURES, POINTS};
 use ground_io::{Link, MemLink};
 use ground_model::Limits;
-use ground_num::{Head, LinearUnit, Name, Origin, Thousandths};
+use ground_num::{Head, Name};
 use session::{Ended, talk};
 use std::alloc::{AllocError, Global};
 use std::process::Abort;
@@ -15,15 +15,8 @@ use std::test::Fail;
 use store::Store;
 
 pub(crate) fn ground(alloc: Global, limits: Limits) -> Result<Store, Fail> {
-    let head = Head {
-        name: Name::from_bytes(alloc, b"ground")?,
-        unit: LinearUnit::Meter,
-        origin: Origin {
-            n: Thousandths(0),
-            e: Thousandths(0),
-        },
-    };
-    Ok(Store::empty(alloc, head, limits)?)
+    let name = Name::from_bytes(alloc, b"ground")?;
+    Ok(Store::empty(alloc, Head::plain(name), limits)?)
 }
 
 /// The named number in words such as `points 1, log 2`, or else the most.

@@ -1,8 +1,6 @@
 -- A trial: edits drawn from a seed, some of them planned on an older version, and what comes of them.
-use Rattle.std.specs.Prelude.{◌≡◌, ℕ, zero, suc, ◌+◌, ◌*◌, ◌/◌, ◌%◌, ◌^◌, pos, List, [], length, codes, Option, None, Some, nat_eq, nat_lt, if◌then◌else◌}
+use Rattle.std.specs.Prelude.{◌≡◌, ℕ, zero, suc, ◌+◌, ◌*◌, ◌/◌, ◌%◌, pos, List, [], length, codes, Option, None, Some, nat_eq, nat_lt, if◌then◌else◌}
 use Rattle.std.specs.FinMap as finmap
-use Rattle.ground_num.specs.declared.head.Head.{Head}
-use Rattle.ground_num.specs.declared.head.LinearUnit.TheVariants.{Meter}
 use Rattle.ground_model.specs.declared.edit.Edit.{Edit}
 use Rattle.ground_model.specs.declared.refusal.Refusal.{Refusal}
 use Rattle.ground_model.specs.Answer as answers
@@ -13,7 +11,7 @@ use Rattle.ground_model.specs.Place.{Coords}
 use Rattle.ground_model.specs.Slope.{relief}
 use Rattle.ground_model.specs.Tri.{tri}
 use Rattle.ground_model.specs.Volume.{volume_over}
-use Rattle.turn_lock.specs.Setting.{Setting}
+use Rattle.turn_lock.specs.Setting.{Setting, IsPlain}
 use Rattle.turn_lock.specs.declared.journal.Journal.{Journal}
 use Rattle.store.specs.Versions.{newest_refusal, with_next}
 use Rattle.store.specs.Answers.{answer_at}
@@ -121,17 +119,9 @@ report_on seed count t =
       net = v.net;
     }
 
-abbrev pub trial_head : Head
-trial_head = record { name = codes "trial"; unit = Meter; origin = record { n = record { 0 = pos 0 }; e = record { 0 = pos 0 } } }
-
--- the surface of a trial: its head, and the full limits
-pub record IsTrialGround (set : Setting) : Type 0 where
-  pub head : set.head ≡ trial_head
-  pub points : set.limits.points ≡ 2 ^ 20
-  pub lines : set.limits.lines ≡ 65535
-  pub places : set.limits.places ≡ 65536
-  pub vertices : set.limits.vertices ≡ 2 ^ 20
-  pub log : set.limits.log ≡ 2 ^ 24
+-- the surface of a trial
+abbrev pub IsTrialGround : Setting → Type 0
+IsTrialGround = IsPlain (codes "trial")
 
 -- the report of a seed and a count
 abbrev pub IsReport : ℕ → ℕ → Report → Type 0

@@ -10,7 +10,7 @@ ghost use Rattle.trial.specs.Trials.{IsTrialGround, empty_trial, applied, planne
 
 use crate::report::Report;
 use ground_model::{Edit, Level, Limits, Place};
-use ground_num::{Head, LinearUnit, Name, Origin, Thousandths};
+use ground_num::{Head, Name};
 use measures::volume;
 use page_vec::Steps;
 use std::alloc::{AllocError, Global};
@@ -48,15 +48,7 @@ fn empty_ground(alloc: Global) -> Result<Store, AllocError>
     let Ok(name) = Name::from_bytes(alloc, b"trial") else {
         return Err(AllocError);
     };
-    let head = Head {
-        name,
-        unit: LinearUnit::Meter,
-        origin: Origin {
-            n: Thousandths(0),
-            e: Thousandths(0),
-        },
-    };
-    Store::empty(alloc, head, Limits::FULL)
+    Store::empty(alloc, Head::plain(name), Limits::FULL)
 }
 
 impl Course {

@@ -6,7 +6,7 @@ use Rattle.ground_io.specs.Order.{SendsAll}
 use Rattle.ground_io.proofs.Ordering.{sends_both}
 use Rattle.ground_model.specs.declared.cut.Cut.{Cut}
 use Rattle.line_protocol.specs.Replies.{lines_text, cut_text}
-use Rattle.line_protocol.proofs.Appended.{appends_both, appends_part, sends_part, sent_last, lines_parted, lines_more, handed_on, written_last}
+use Rattle.ground_io.proofs.Texts.{appends_both, appends_part, sends_part, sent_last, lines_parted, lines_more, handed_on, written_last}
 use Rattle.line_protocol.proofs.put.put_cuts.Goals as goal
 
 pub returns-in_err-make_room-clause-text : goal.returns-in_err-make_room-clause-text
