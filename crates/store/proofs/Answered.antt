@@ -3,7 +3,8 @@ use Rattle.std.proofs.Common.{◌≡◌, ℕ, ◌+◌, ◌<◌, List, [], ◌∷
 use Rattle.std.proofs.Math.Seq.{take-append_seam}
 use Rattle.std.proofs.lemmas.Bool.{lt-ltb}
 use Rattle.std.proofs.lemmas.List.{append-nil}
-use Rattle.std.specs.Prelude.{Option, find}
+use Rattle.std.specs.Prelude.{Option, find, Result, Ok, Err, IfOk, OnErr}
+use Rattle.std.specs.declared.alloc.AllocError.{AllocError}
 use Rattle.ground_model.specs.declared.edit.Edit.{Edit}
 use Rattle.ground_model.specs.declared.entry.Entry.{Entry}
 use Rattle.ground_model.specs.declared.line.LineId.{LineId}
@@ -18,7 +19,7 @@ use Rattle.turn_lock.specs.declared.journal.Journal.{Journal}
 use Rattle.store.specs.declared.answers.Settled.{Settled}
 use Rattle.store.specs.declared.answers.Settled.TheVariants as settled
 use Rattle.store.specs.Versions.{VersionView, newest_refusal, with_next}
-use Rattle.store.specs.Answers.{answer_at, Settles}
+use Rattle.store.specs.Answers.{answer_at, at_front, Settles, Tries, IsNoConflict}
 
 -- ---- journals that begin one another
 
@@ -57,27 +58,41 @@ module _ (x j : Journal) (prefix : IsPrefix x j) (stale : length x.entries < len
 
 -- ---- what was tried at the front
 
--- the answer to an edit that was made
-pub applied-done : (author : ℕ) (edit : Edit) (old new : Journal) (s : Settled) (version : VersionView) (line : Option LineId) → s ≡ settled.Done version line → Settles author edit old new s
-    → (answer_at old (length old.entries) edit ≡ Done (length old.entries + 1) line) × (new ≡ with_next author old edit) × (version.journal ≡ new)
-applied-done author edit old new s version line is settles =
-    let h = subst (Settles author edit old new) is settles in
-    (answer-done old edit h.0 ∙ ap (Done (length old.entries + 1)) (sym h.1), h.2, h.3)
+-- an edit that was tried is settled
+pub settles-front : (author : ℕ) (edit : Edit) (old new : Journal) (r : Result Settled AllocError) → IfOk r (Tries author edit old new) → OnErr r (new ≡ old) → Settles author (at_front old edit) old new r
+settles-front author edit old new (Ok (settled.Done version line before)) h kept = (answer-done old edit h.0 ∙ ap (Done (length old.entries + 1)) (sym h.1), h.2, h.3, h.4)
+settles-front author edit old new (Ok (settled.Conflict version mark back)) h kept = absurd h
+settles-front author edit old new (Ok (settled.Refused version cause back)) h kept = (answer-refused old edit cause h.0, h.1, h.2, h.3)
+settles-front author edit old new (Err out) h kept = kept
 
-pub applied-refused : (author : ℕ) (edit : Edit) (old new : Journal) (s : Settled) (version : VersionView) (cause : Refusal) → s ≡ settled.Refused version cause → Settles author edit old new s
-    → (answer_at old (length old.entries) edit ≡ Refused (length old.entries) cause) × (new ≡ old) × (version.journal ≡ new)
-applied-refused author edit old new s version cause is settles =
-    let h = subst (Settles author edit old new) is settles in
-    (answer-refused old edit cause h.0, h.1, h.2)
+pub tries-front : (author : ℕ) (edit : Edit) (old new : Journal) (r : Result Settled AllocError) → IfOk r (Tries author edit old new) → IsNoConflict r
+tries-front author edit old new (Ok (settled.Done version line before)) h = tt
+tries-front author edit old new (Ok (settled.Conflict version mark back)) h = absurd h
+tries-front author edit old new (Ok (settled.Refused version cause back)) h = tt
+tries-front author edit old new (Err out) h = tt
 
-module _ (x : Journal) (author : ℕ) (edit : Edit) (old new : Journal) (prefix : IsPrefix x old) (stale : length x.entries < length old.entries)
-    (none : None ≡ find (has_changed old.entries (length x.entries)) (zone (content_of x.entries) edit)) (s : Settled) (settles : Settles author edit old new s) where
-  pub committed-done : (version : VersionView) (line : Option LineId) → s ≡ settled.Done version line → (answer_at old (length x.entries) edit ≡ Done (length old.entries + 1) line) × (new ≡ with_next author old edit) × (version.journal ≡ new)
-  committed-done version line is =
-      let h = subst (Settles author edit old new) is settles in
-      (answer-unchanged x old prefix stale edit none ∙ ap (by_refusal old.entries edit) h.0 ∙ ap (Done (length old.entries + 1)) (sym h.1), h.2, h.3)
+pub settles-stale : (x : Journal) (author : ℕ) (edit : Edit) (old new : Journal) → IsPrefix x old → length x.entries < length old.entries → None ≡ find (has_changed old.entries (length x.entries)) (zone (content_of x.entries) edit)
+    → (r : Result Settled AllocError) → IfOk r (Tries author edit old new) → OnErr r (new ≡ old) → Settles author (record { base = length x.entries; edit = edit }) old new r
+settles-stale x author edit old new prefix stale none (Ok (settled.Done version line before)) h kept =
+    (answer-unchanged x old prefix stale edit none ∙ ap (by_refusal old.entries edit) h.0 ∙ ap (Done (length old.entries + 1)) (sym h.1), h.2, h.3, h.4)
+settles-stale x author edit old new prefix stale none (Ok (settled.Conflict version mark back)) h kept = absurd h
+settles-stale x author edit old new prefix stale none (Ok (settled.Refused version cause back)) h kept =
+    (answer-unchanged x old prefix stale edit none ∙ ap (by_refusal old.entries edit) h.0, h.1, h.2, h.3)
+settles-stale x author edit old new prefix stale none (Err out) h kept = kept
 
-  pub committed-refused : (version : VersionView) (cause : Refusal) → s ≡ settled.Refused version cause → (answer_at old (length x.entries) edit ≡ Refused (length old.entries) cause) × (new ≡ old) × (version.journal ≡ new)
-  committed-refused version cause is =
-      let h = subst (Settles author edit old new) is settles in
-      (answer-unchanged x old prefix stale edit none ∙ ap (by_refusal old.entries edit) h.0, h.1, h.2)
+pub settles-fresh : (x : Journal) (author : ℕ) (edit copy : Edit) (old new : Journal) → x ≡ old → copy ≡ edit → newest_refusal x edit ≡ None
+    → (version before : VersionView) (line : Option LineId) → line ≡ given_number (content_of old.entries) copy → new ≡ with_next author old copy → version.journal ≡ new → before.journal ≡ old
+    → Settles author (record { base = length x.entries; edit = edit }) old new (Ok (settled.Done version line before))
+settles-fresh x author edit copy old new here same lawful version before line number next newest former = (
+  ap (λ (j : Journal). answer_at old (length j.entries) edit) here
+      ∙ (answer-done old edit (subst (λ (j : Journal). newest_refusal j edit ≡ None) here lawful)
+      ∙ ap (Done (length old.entries + 1)) (sym (number ∙ ap (given_number (content_of old.entries)) same))),
+  next ∙ ap (with_next author old) same,
+  newest,
+  former,
+)
+
+pub settles-changed : (x : Journal) (author : ℕ) (edit copy : Edit) (old new : Journal) → IsPrefix x old → length x.entries < length old.entries → copy ≡ edit → new ≡ old
+    → (m : Mark) → Some m ≡ find (has_changed old.entries (length x.entries)) (zone (content_of x.entries) edit) → (version : VersionView) → version.journal ≡ new
+    → Settles author (record { base = length x.entries; edit = edit }) old new (Ok (settled.Conflict version m copy))
+settles-changed x author edit copy old new prefix stale same kept m found version newest = (answer-changed x old prefix stale edit m found, same, kept, newest)

@@ -11,9 +11,9 @@ use Rattle.store.specs.declared.event.CoreReply.{CoreReply}
 use Rattle.store.specs.declared.event.Event.{Event}
 use Rattle.store.specs.declared.run.Run.{Run}
 use Rattle.store.specs.Versions.{StoreView, VersionView}
-use Rattle.store.specs.Core.{Holding, CoreState, Move, first_holding, session_of, move, move_at, moved, core_from}
+use Rattle.store.specs.Core.{Holding, first_holding, session_of, move, move_at, core_from}
 use Rattle.store.specs.Members.{MemberView, holding_of, holding_at, Makes}
-use Rattle.store.specs.Runs.{member_at, state_of, HoldsPrefix, IsRun, IsTaken, Serves}
+use Rattle.store.specs.Runs.{member_at, state_of, HoldsPrefix, IsTaken, Serves}
 use Rattle.store.proofs.Counted.{at-equal}
 
 -- ---- a session's first event

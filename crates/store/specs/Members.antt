@@ -1,5 +1,5 @@
 -- The sessions of a run, as they are kept, and what they are in the core.
-use Rattle.std.specs.Prelude.{◌≡◌, ℕ, length, Option, None, Some}
+use Rattle.std.specs.Prelude.{◌≡◌, length, Option, None, Some}
 use Rattle.ground_model.specs.Answer.{Pending}
 use Rattle.turn_lock.specs.Journal.{IsPrefix}
 use Rattle.turn_lock.specs.declared.journal.Journal.{Journal}

@@ -19,9 +19,10 @@ mod surface;
 mod version;
 mod zone;
 
-pub use answers::{Applied, Commit};
+pub use answers::{Applied, Commit, Settled};
 pub use event::{CoreReply, Event, Query};
 pub use plan::{Plan, PlanFault};
 pub use run::run_core;
+pub use state::copied;
 pub use store::Store;
 pub use version::Version;

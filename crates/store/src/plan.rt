@@ -69,18 +69,11 @@ impl Plan {
             .find(|mark| newest.has_changed(mark, base))
     }
 
-    /// The planned edit.
-    pub(crate) fn edit(&self) -> &Edit
-        ensures { result.now ≡ self.now.edit }
+    /// A copy of the planned edit, which takes memory for the places of a line alone.
+    pub fn copied_edit(&self) -> Result<Edit, AllocError>
+        ensures { IfOk result (λ edit. edit ≡ self.now.edit) }
     {
-        &self.edit
-    }
-
-    /// The planned edit, handed back.
-    pub(crate) fn into_edit(self) -> Edit
-        ensures { result ≡ self.edit }
-    {
-        self.edit
+        self.version.copied(&self.edit)
     }
 
     /// The surface that the edit makes of the plan's version.

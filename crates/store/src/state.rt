@@ -130,20 +130,20 @@ impl State {
     pub(crate) fn with_entry<L: Ledger>(
         &self,
         author: u16,
-        edit: &Edit,
+        edit: Edit,
         made: Shared<Made>,
         steps: &mut Steps<L>,
     ) -> Result<State, AllocError>
-        requires lawful { newest_refusal self.now.journal edit.now ≡ None }
-        requires made { IsMadeBy self.now.journal edit.now made }
-        ensures state { IfOk result (λ state. state.journal ≡ with_next author self.now.journal edit.now) }
+        requires lawful { newest_refusal self.now.journal edit ≡ None }
+        requires made { IsMadeBy self.now.journal edit made }
+        ensures state { IfOk result (λ state. state.journal ≡ with_next author self.now.journal edit) }
         ensures cost { steps.new ≤ steps.old + 1 }
     {
         let number = self.authors.entries(author) + 1;
         let entry = Entry {
             author,
             number,
-            edit: copied(self.alloc, edit)?,
+            edit,
         };
         let mut log = self.log.share()?;
         log.push(Shared::new(self.alloc, entry)?, steps)?;
@@ -158,8 +158,8 @@ impl State {
     }
 }
 
-/// A copy of the edit, which takes memory for the places of a line alone.
-pub(crate) fn copied(alloc: Global, edit: &Edit) -> Result<Edit, AllocError>
+/// A copy of an edit, which takes memory for the places of a line alone.
+pub fn copied(alloc: Global, edit: &Edit) -> Result<Edit, AllocError>
     ensures { IfOk result (λ copy. copy ≡ edit.now) }
 {
     match edit {

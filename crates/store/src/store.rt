@@ -4,9 +4,9 @@ ghost use Rattle.std.specs.Prelude.{◌≡◌, ◌<◌, ◌≤◌, ◌+◌, [], 
 ghost use Rattle.ground_num.specs.Head.{IsOrigin};
 ghost use Rattle.ground_model.specs.History.{IsLegal};
 ghost use Rattle.turn_lock.specs.Journal.{IsPrefix};
-ghost use Rattle.store.specs.Versions.{newest_refusal, with_next, IsMadeBy};
+ghost use Rattle.store.specs.Versions.{newest_refusal, with_next, as_pending, IsMadeBy};
 ghost use Rattle.store.specs.Costs.{most_steps};
-ghost use Rattle.store.specs.Answers.{Applies, Commits, Settles};
+ghost use Rattle.store.specs.Answers.{Applies, Commits, Settles, Tries, IsNoConflict, at_front};
 
 use crate::answers::{Applied, Commit, Settled};
 use crate::outcome::Outcome;
@@ -18,7 +18,9 @@ use ground_num::Head;
 use page_vec::{Shared, Steps};
 use std::alloc::{AllocError, Global};
 use std::marker::Model;
+use std::mem;
 use std::sync::ledger::Ledger;
+use turn_lock::Filed;
 
 /// One surface: its newest version. Its journal only grows, by one entry at a time.
 #[derive(Drop)]
@@ -61,82 +63,128 @@ impl Store {
         self.newest.share()
     }
 
-    // Makes a lawful edit, whose surface this is, as the author's next entry.
+    // Makes a lawful edit, whose surface this is, as the author's next entry. Gives the version with
+    // it, and the one before.
     fn enter<L: Ledger>(
         &mut self,
         author: u16,
-        edit: &Edit,
+        edit: Edit,
         made: Shared<Made>,
         steps: &mut Steps<L>,
-    ) -> Result<Version, AllocError>
-        requires lawful { newest_refusal self.old.journal edit.now ≡ None }
-        requires made { IsMadeBy self.old.journal edit.now made }
-        ensures ok { OnOk result (self.new.journal ≡ with_next author self.old.journal edit.now) }
-        ensures version { IfOk result (λ version. version.journal ≡ self.new.journal) }
+    ) -> Result<(Version, Version), AllocError>
+        requires lawful { newest_refusal self.old.journal edit ≡ None }
+        requires made { IsMadeBy self.old.journal edit made }
+        ensures ok { OnOk result (self.new.journal ≡ with_next author self.old.journal edit) }
+        ensures version { IfOk result (λ r. r.0.journal ≡ self.new.journal) }
+        ensures before { IfOk result (λ r. r.1.journal ≡ self.old.journal) }
         ensures err { OnErr result (self.new.journal ≡ self.old.journal) }
         ensures cost { steps.new ≤ steps.old + 1 }
     {
         let version = self.newest.with_entry(author, edit, made, steps)?;
         let handle = version.share()?;
-        self.newest = version;
-        Ok(handle)
+        let before = mem::replace(&mut self.newest, version);
+        Ok((handle, before))
     }
 
     // Makes the edit as the author's next entry, if it is lawful on the newest version.
-    fn settle<L: Ledger>(
+    fn make<L: Ledger>(
         &mut self,
         author: u16,
-        edit: &Edit,
+        edit: Edit,
         steps: &mut Steps<L>,
     ) -> Result<Settled, AllocError>
-        ensures ok { IfOk result (Settles author edit.now self.old.journal self.new.journal) }
+        ensures ok { IfOk result (Tries author edit self.old.journal self.new.journal) }
         ensures err { OnErr result (self.new.journal ≡ self.old.journal) }
         ensures cost { steps.new ≤ steps.old + 1 }
     {
-        match self.newest.outcome(edit)? {
+        match self.newest.outcome(&edit)? {
             Outcome::Lawful(made) => {
-                let line = self.newest.new_line(edit);
+                let line = self.newest.new_line(&edit);
                 let made = self.newest.shared(made)?;
-                Ok(Settled::Done(self.enter(author, edit, made, steps)?, line))
+                let (version, before) = self.enter(author, edit, made, steps)?;
+                Ok(Settled::Done(version, line, before))
             }
-            Outcome::Refused(cause) => Ok(Settled::Refused(self.newest.share()?, cause)),
+            Outcome::Refused(cause) => Ok(Settled::Refused(self.newest.share()?, cause, edit)),
         }
     }
 
-    // Commits a plan of an older version: a conflict, or what the edit comes to on the newest one.
-    fn commit_stale<L: Ledger>(&mut self, author: u16, plan: Plan, steps: &mut Steps<L>) -> Commit
-        requires prefix { IsPrefix plan.journal self.old.journal }
-        requires stale { length plan.journal.entries < length self.old.journal.entries }
-        ensures answer { Commits author plan self.old.journal self.new.journal result }
+    // Settles a plan of an older version: a conflict, or what the edit comes to on the newest one.
+    fn settle_stale<L: Ledger>(
+        &mut self,
+        author: u16,
+        plan: &Plan,
+        copy: Edit,
+        steps: &mut Steps<L>,
+    ) -> Result<Settled, AllocError>
+        requires prefix { IsPrefix plan.now.journal self.old.journal }
+        requires stale { length plan.now.journal.entries < length self.old.journal.entries }
+        requires copy { copy ≡ plan.now.edit }
+        ensures answer { Settles author (as_pending plan.now) self.old.journal self.new.journal result }
         ensures cost { steps.new ≤ steps.old + 1 }
     {
         if let Some(mark) = plan.first_changed(&self.newest) {
-            return match self.newest.share() {
-                Ok(version) => Commit::Conflict(version, mark, plan.into_edit()),
-                Err(AllocError) => Commit::Memory(plan),
-            };
+            return Ok(Settled::Conflict(self.newest.share()?, mark, copy));
         }
-        match self.settle(author, plan.edit(), steps) {
-            Ok(Settled::Done(version, line)) => Commit::Done(version, line),
-            Ok(Settled::Refused(version, cause)) => Commit::Refused(version, cause),
-            Err(AllocError) => Commit::Memory(plan),
+        self.make(author, copy, steps)
+    }
+
+    // Settles a plan of the newest version, which is lawful there: its surface is taken over.
+    fn settle_fresh<L: Ledger>(
+        &mut self,
+        author: u16,
+        plan: &Plan,
+        copy: Edit,
+        steps: &mut Steps<L>,
+    ) -> Result<Settled, AllocError>
+        requires plan { plan.now.journal ≡ self.old.journal }
+        requires copy { copy ≡ plan.now.edit }
+        ensures answer { Settles author (as_pending plan.now) self.old.journal self.new.journal result }
+        ensures cost { steps.new ≤ steps.old + 1 }
+    {
+        let line = self.newest.new_line(&copy);
+        let made = plan.made()?;
+        let (version, before) = self.enter(author, copy, made, steps)?;
+        Ok(Settled::Done(version, line, before))
+    }
+
+    /// Commits a plan, which stays with the caller, as `commit` does. The copy of its edit is what the
+    /// entry will have, and where there was no memory for it, there is none for the commit.
+    pub fn settle_plan<L: Ledger>(
+        &mut self,
+        author: u16,
+        plan: &Plan,
+        copy: Result<Edit, AllocError>,
+        steps: &mut Steps<L>,
+    ) -> Result<Settled, AllocError>
+        requires prefix { IsPrefix plan.now.journal self.old.journal }
+        requires copy { IfOk copy (λ edit. edit ≡ plan.now.edit) }
+        ensures answer { Settles author (as_pending plan.now) self.old.journal self.new.journal result }
+        ensures cost { steps.new ≤ steps.old + most_steps plan.now.journal plan.now.edit self.old.journal self.new.journal }
+    {
+        let copy = copy?;
+        if plan.base() < self.newest.front() {
+            self.settle_stale(author, plan, copy, steps)
+        } else {
+            self.settle_fresh(author, plan, copy, steps)
         }
     }
 
-    // Commits a plan of the newest version, which is lawful there: its surface is taken over.
-    fn commit_fresh<L: Ledger>(&mut self, author: u16, plan: Plan, steps: &mut Steps<L>) -> Commit
-        requires { plan.journal ≡ self.old.journal }
-        ensures answer { Commits author plan self.old.journal self.new.journal result }
-        ensures cost { steps.new ≤ steps.old + 1 }
+    /// Applies an edit, which stays with the caller, as `apply` does. The copy of it is what the entry
+    /// will have, and where there was no memory for it, there is none for the edit.
+    pub fn settle<L: Ledger>(
+        &mut self,
+        author: u16,
+        edit: &Edit,
+        copy: Result<Edit, AllocError>,
+        steps: &mut Steps<L>,
+    ) -> Result<Settled, AllocError>
+        requires copy { IfOk copy (λ copy. copy ≡ edit.now) }
+        ensures answer { Settles author (at_front self.old.journal edit.now) self.old.journal self.new.journal result }
+        ensures no_conflict { IsNoConflict result }
+        ensures cost { steps.new ≤ steps.old + most_steps self.old.journal edit.now self.old.journal self.new.journal }
     {
-        let line = self.newest.new_line(plan.edit());
-        let Ok(made) = plan.made() else {
-            return Commit::Memory(plan);
-        };
-        match self.enter(author, plan.edit(), made, steps) {
-            Ok(version) => Commit::Done(version, line),
-            Err(AllocError) => Commit::Memory(plan),
-        }
+        let _ = edit;
+        self.make(author, copy?, steps)
     }
 
     /// Commits a plan: makes its edit as the author's next entry, unless a mark of its zone has
@@ -148,11 +196,9 @@ impl Store {
         ensures answer { Commits author plan self.old.journal self.new.journal result }
         ensures cost { steps.new ≤ steps.old + most_steps plan.journal plan.edit self.old.journal self.new.journal }
     {
-        if plan.base() < self.newest.front() {
-            self.commit_stale(author, plan, steps)
-        } else {
-            self.commit_fresh(author, plan, steps)
-        }
+        let copy = plan.copied_edit();
+        let settled = self.settle_plan(author, &plan, copy, steps);
+        Commit::of(settled, plan)
     }
 
     /// Plans an edit on the newest version and commits it at once.
@@ -160,10 +206,16 @@ impl Store {
         ensures answer { Applies author edit self.old.journal self.new.journal result }
         ensures cost { steps.new ≤ steps.old + most_steps self.old.journal edit self.old.journal self.new.journal }
     {
-        match self.settle(author, &edit, steps) {
-            Ok(Settled::Done(version, line)) => Applied::Done(version, line),
-            Ok(Settled::Refused(version, cause)) => Applied::Refused(version, cause),
-            Err(AllocError) => Applied::Memory(edit),
-        }
+        let copy = self.newest.copied(&edit);
+        let settled = self.settle(author, &edit, copy, steps);
+        Applied::of(settled, edit)
+    }
+}
+
+impl Filed for Store {
+    ghost journal = { λ store. store.journal };
+
+    fn filed(&self) -> u32 {
+        self.newest.front()
     }
 }

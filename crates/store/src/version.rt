@@ -15,7 +15,7 @@ ghost use Rattle.store.specs.Answers.{Plans};
 
 use crate::outcome::Outcome;
 use crate::plan::{Plan, PlanFault};
-use crate::state::{Made, State};
+use crate::state::{Made, State, copied};
 use crate::zone::zone_of;
 use ground_model::{
     Edit, Entry, Level, Limits, LineId, LineKind, Listed, Mark, Place, Places, Relief, Slope,
@@ -190,17 +190,24 @@ impl Version {
         Ok(Shared::new(self.state.get().alloc(), made)?)
     }
 
+    /// A copy of an edit.
+    pub(crate) fn copied(&self, edit: &Edit) -> Result<Edit, AllocError>
+        ensures { IfOk result (λ copy. copy ≡ edit.now) }
+    {
+        copied(self.state.get().alloc(), edit)
+    }
+
     /// The version with the author's next entry, which makes this edit and this surface.
     pub(crate) fn with_entry<L: Ledger>(
         &self,
         author: u16,
-        edit: &Edit,
+        edit: Edit,
         made: Shared<Made>,
         steps: &mut Steps<L>,
     ) -> Result<Version, AllocError>
-        requires lawful { newest_refusal self.now.journal edit.now ≡ None }
-        requires made { IsMadeBy self.now.journal edit.now made }
-        ensures version { IfOk result (λ version. version.journal ≡ with_next author self.now.journal edit.now) }
+        requires lawful { newest_refusal self.now.journal edit ≡ None }
+        requires made { IsMadeBy self.now.journal edit made }
+        ensures version { IfOk result (λ version. version.journal ≡ with_next author self.now.journal edit) }
         ensures cost { steps.new ≤ steps.old + 1 }
     {
         let state = self.state.get();
