@@ -1,0 +1,18 @@
+use Rattle.store.specs.Answers.{at_front}
+use Rattle.desk.proofs.Settling.{begun-by, turned, settled-in, settled-seen}
+use Rattle.desk.proofs.desk.Desk.apply.Goals as goal
+
+pub end_turn-seat-requires : goal.end_turn-seat-requires
+end_turn-seat-requires g c =
+    let begun = begun-by c.args.pass c.pass.inside.seat c.pass.view_is c.take-turn.result.1.journal c.take-turn.ensures.added c.take-turn.ensures.bounded c.take-turn.result.0 c.take-turn.ensures.turn in
+    settled-in c.args.pass c.take-turn.result.0 c.author-author.result c.take-turn.result.1.journal c.settle_edit-settled.new.store.journal (at_front c.take-turn.result.1.journal c.args.edit) c.settle_edit-settled.result begun c.author-author.ensures.author c.settle_edit-settled.ensures.answer
+
+pub returns : goal.returns
+returns g c = record {
+  turn = record {
+    found = c.take-turn.result.1.journal;
+    finds = turned c.args.pass c.pass.inside.seat c.pass.view_is c.take-turn.result.1.journal c.take-turn.ensures.added c.take-turn.ensures.bounded c.take-turn.result.0 c.end_turn-seat.result c.settle_edit-settled.new.store.journal c.take-turn.ensures.turn c.end_turn-seat.ensures;
+    applies = c.of.ensures c.args.pass.number c.take-turn.result.1.journal c.end_turn-seat.result.seen
+        (settled-seen c.take-turn.result.0 c.end_turn-seat.result c.author-author.result c.args.pass.number c.take-turn.result.1.journal c.settle_edit-settled.new.store.journal (at_front c.take-turn.result.1.journal c.args.edit) c.settle_edit-settled.result c.author-author.ensures.author c.end_turn-seat.ensures c.settle_edit-settled.ensures.answer);
+  };
+}
