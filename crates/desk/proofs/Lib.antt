@@ -1,3 +1,2 @@
-pub mod Noting
 pub mod Joining
 pub mod Settling
