@@ -108,20 +108,18 @@ fn close<R: Abort>(rt: &R, desk: Desk, passes: Vec<Pass>) -> Version
     version
 }
 
-// Whether the author's entries are numbered from 1 on.
-fn is_numbered(version: &Version, author: u16, count: u32) -> bool {
-    let mut number = 0;
-    for k in 0..version.front() {
-        if let Some(entry) = version.entry(k) {
-            if entry.author == author {
-                number += 1;
-                if entry.number != number {
-                    return false;
-                }
-            }
-        }
+// The number of the entry at this index, if it is the author's.
+fn number_by(version: &Version, author: u16, k: u32) -> Option<u32> {
+    match version.entry(k) {
+        Some(entry) if entry.author == author => Some(entry.number),
+        _ => None,
     }
-    number == count
+}
+
+// Whether the author's entries are numbered from 1 to 10.
+fn has_ten_by(version: &Version, author: u16) -> bool {
+    let numbers = (0..version.front()).filter_map(|k| number_by(version, author, k));
+    numbers.eq(1..11)
 }
 
 fn two_crews<R: Threads + Wait + Sync + Abort>(rt: &R, alloc: Global) -> Version {
@@ -134,7 +132,7 @@ fn two_crews<R: Threads + Wait + Sync + Abort>(rt: &R, alloc: Global) -> Version
 fn two_crews_make_each_entry_once(rt: HostRuntime) {
     let version = two_crews(&rt, rt.alloc());
     assert_eq!(rt; version.front(), 20);
-    assert!(rt; is_numbered(&version, 1, 10) && is_numbered(&version, 2, 10));
+    assert!(rt; has_ten_by(&version, 1) && has_ten_by(&version, 2));
 }
 
 // A pass with a plan on a version that it has seen.
