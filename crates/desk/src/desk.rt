@@ -18,8 +18,9 @@ use turn_lock::{TurnLock, TurnSeat};
 /// A desk: one store under a ticket lock, and 1 to 16 passes to it. A desk has to be closed, which
 /// gives the store back.
 ///
-/// A turn is short: planning, reading and copying take none, and what a turn leaves is dropped once
-/// the store is passed on. A pass that waits for its turn yields the processor.
+/// Versions are read and edits are planned on them without a turn. The copy of an edit that its entry
+/// will have is made before one, and what a turn leaves is dropped once the store is passed on. A pass
+/// that waits for its turn yields the processor.
 pub struct Desk {
     pub(crate) lock: TurnLock<Store>,
     pub(crate) alloc: Global,
