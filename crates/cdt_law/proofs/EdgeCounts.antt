@@ -25,22 +25,15 @@ use Rattle.cdt_law.specs.Stale.{without, IsUnchanged}
 use Rattle.cdt_law.specs.Vertices.{AreCorners}
 use Rattle.cdt_law.specs.EdgeCounts.{CountAlike, CountLaw}
 use Rattle.cdt_law.proofs.GoodInSheet.{over-first}
-use Rattle.cdt_law.proofs.Patched.{rimmed-among, replaced-closed}
-use Rattle.cdt_law.proofs.Reordered.{order_law}
-use Rattle.cdt_law.proofs.GoneFacets.{among-some, turn-in, some-facet, Places, places-of, facet-among, facet-there, Gone, gone-of, gone-in, GoneOn, gone-on}
-use Rattle.cdt_law.proofs.Boundary.{gone-once, boundary_law}
-use Rattle.cdt_law.proofs.Renewed.{regrouped, regrouped-alike, without-in}
+use Rattle.cdt_law.proofs.Patched.{rimmed-among}
+use Rattle.cdt_law.proofs.GoneFacets.{among-some, some-facet, Places, places-of, facet-among, facet-there, Gone, gone-of, gone-in, GoneOn, gone-on}
+use Rattle.cdt_law.proofs.Renewed.{gone-has, renewed-closed, without-in}
 
 module _ (base planned newest after : Net) (b : IsSheet base) (p : IsSheet planned) (n : IsSheet newest) (out : Encloses base planned) (out' : Encloses planned base)
     (inner : IsInner base planned) (inner' : IsInner planned base) (u : IsUnchanged base planned newest)
     (triangles : after.triangles ≡ gone planned base ++ without newest (gone base planned)) (placed : All IsPlace after.points) (corners : AreCorners after) (same : CountAlike base newest base planned) where
-  made_in : (x y z : Corner) → is_in (gone planned base) x y z ≡ true → has planned x y z ≡ true
-  made_in x y z e = let g = gone-of planned base x y z e in turn-in planned.triangles g.index g.triangle x y z g.at g.turn
-
   closed : IsClosed after
-  closed = replaced-closed planned (regrouped newest (gone base planned)) after p
-      (order_law newest (regrouped newest (gone base planned)) n (regrouped-alike newest n (gone base planned) u.destroyed (gone-once base planned b))).0
-      (gone base planned) (gone planned base) (without newest (gone base planned)) refl triangles made_in (boundary_law base planned b p out out' inner inner') placed corners.over
+  closed = renewed-closed base planned newest after b p n out out' inner inner' u triangles placed corners.over
 
   -- over the edge of a made triangle that is none of a destroyed one
   module _ (x y z : Corner) (made : is_in (gone planned base) x y z ≡ true) (none : times_among (gone base planned) (x, y) ≡ 0) where
@@ -73,7 +66,7 @@ module _ (base planned newest after : Net) (b : IsSheet base) (p : IsSheet plann
             test false h = never-some (times_among (gone base planned) (x, y)) none (among-some (gone base planned) x y o.third (gone-in base planned o.index o.triangle x y o.third f.0 o.at o.turn f.1 h))
             test true h =
                 let there = facet-there base planned b p o.index o.triangle x y o.third f.0 o.at o.turn f.1 h in
-                let one : o.third ≡ z = one_on_edge planned p x y o.third z there.there (made_in x y z made) in
+                let one : o.third ≡ z = one_on_edge planned p x y o.third z there.there (gone-has planned base x y z made) in
                 let equal : Some g.facet ≡ Some f.0 = sym g.is ∙ there.each g.index g.triangle g.at (subst (λ v. IsTurn g.triangle x y v) (sym one) g.turn) in
                 let facets : g.facet ≡ f.0 = cc in
                 clash (is_among (facets_of base) g.facet) g.none (ap (is_among (facets_of base)) facets ∙ facet-among base o.index o.triangle f.0 o.at f.1)

@@ -40,6 +40,8 @@ pub mod PiecesWithout
 pub mod LongerPieces
 pub mod CountsWithout
 pub mod PointLaw
+pub mod ClearEdges
+pub mod PieceParts
 -- the hull
 pub mod FarLarger
 pub mod Hull
@@ -51,6 +53,8 @@ pub mod RingAround
 pub mod Overlaps
 pub mod Enclosed
 -- stale plans
+pub mod FacetEdges
+pub mod ChangedEdges
 pub mod Renewed
 pub mod SharedCorners
 pub mod Vertices

@@ -20,10 +20,10 @@ pub record Inside (u v x : Coords) : Type 0 where
   pub after : is_before u x ≡ true
   pub before : is_before x v ≡ true
 
-not-first : (u v x : Coords) → Inside u v x → x ≡ u → ⊥
+pub not-first : (u v x : Coords) → Inside u v x → x ≡ u → ⊥
 not-first u v x h e = itself x (ap (λ k. is_before k x) e ∙ h.after)
 
-not-last : (u v x : Coords) → Inside u v x → x ≡ v → ⊥
+pub not-last : (u v x : Coords) → Inside u v x → x ≡ v → ⊥
 not-last u v x h e = itself x (ap (is_before x) e ∙ h.before)
 
 pub amid : (u v x : Coords) → Inside u v x → Amid u v x
@@ -33,14 +33,14 @@ pub amid-back : (u v x : Coords) → Inside u v x → Amid v u x
 amid-back u v x h = amid-of v u x (mean_turned u v x (mean_of_on u v x h.on)) (not-last u v x h) (not-first u v x h)
 
 -- of two places one is before the other
-one-before : (x y : Coords) → (x ≡ y → ⊥) → (is_before x y ≡ true) ⊎ (is_before y x ≡ true)
+pub one-before : (x y : Coords) → (x ≡ y → ⊥) → (is_before x y ≡ true) ⊎ (is_before y x ≡ true)
 one-before x y differ = by (is_before x y) refl
   where
     by : (t : Bool) → is_before x y ≡ t → (is_before x y ≡ true) ⊎ (is_before y x ≡ true)
     by true e = inl e
     by false e = inr (true_from_ne_false (is_before y x) (λ f. differ (same_place x y e f)))
 
-strictly : (x y : Coords) → (x ≡ y → ⊥) → UpTo x y → is_before x y ≡ true
+pub strictly : (x y : Coords) → (x ≡ y → ⊥) → UpTo x y → is_before x y ≡ true
 strictly x y differ h = true_from_ne_false (is_before x y) (λ f. differ (same_place x y f (not_before x y h)))
 
 module _ (points rest : List Coords) (p : Coords) (without : (x : Coords) → is_point rest x ≡ (is_point points x && not (is_same p x))) (at_p : is_point points p ≡ true) where

@@ -69,17 +69,18 @@ amid-of u v x m no_u no_v = record { mean = m; first = more m.l (λ e. no_v (at_
     at_last : m.l ≡ 0 → x ≡ v
     at_last e = same_coords x v (last-only m.l m.m x.e u.e v.e m.some m.e_is e) (last-only m.l m.m x.n u.n v.n m.some m.n_is e)
 
--- of three places on a link in order the second lies on the segment of the others
-pub on-by-order : (a : Segment) (u x v : Coords) → is_on_segment a.0 a.1 u ≡ true → is_on_segment a.0 a.1 x ≡ true → is_on_segment a.0 a.1 v ≡ true → is_before u x ≡ true → is_before x v ≡ true → is_on_segment u v x ≡ true
-on-by-order a u x v on_u on_x on_v lt gt = by (is_eq (orientation u v x)) (is_before x u) (is_before v x) (is_before x v) (is_before u x)
-    ((Decides-int_eq (side u v x) (pos 0)).1 (collinear_between a.0 a.1 u v (mean_of_on a.0 a.1 u on_u) (mean_of_on a.0 a.1 v on_v) x (collinear_of_on a.0 a.1 x on_x)))
-    (not_after u x lt) (not_after x v gt)
+-- of three collinear places in order the second lies on the segment of the others
+pub on-in-order : (u x v : Coords) → side u v x ≡ pos 0 → is_before u x ≡ true → is_before x v ≡ true → is_on_segment u v x ≡ true
+on-in-order u x v flat lt gt = by (is_eq (orientation u v x)) (is_before x u) (is_before v x) (is_before x v) (is_before u x) ((Decides-int_eq (side u v x) (pos 0)).1 flat) (not_after u x lt) (not_after x v gt)
   where
     by : (s t w y z : Bool) → s ≡ true → t ≡ false → w ≡ false → (s && (not t && not w || not y && not z)) ≡ true
     by true false false y z e f g = refl
     by false t w y z e f g = cc
     by true true w y z e f g = cc
     by true false true y z e f g = cc
+
+pub on-by-order : (a : Segment) (u x v : Coords) → is_on_segment a.0 a.1 u ≡ true → is_on_segment a.0 a.1 x ≡ true → is_on_segment a.0 a.1 v ≡ true → is_before u x ≡ true → is_before x v ≡ true → is_on_segment u v x ≡ true
+on-by-order a u x v on_u on_x on_v lt gt = on-in-order u x v (collinear_between a.0 a.1 u v (mean_of_on a.0 a.1 u on_u) (mean_of_on a.0 a.1 v on_v) x (collinear_of_on a.0 a.1 x on_x)) lt gt
 
 -- what lies between two places of a link is on the link
 pub on-part : (a : Segment) (s t x : Coords) → is_on_segment a.0 a.1 s ≡ true → is_on_segment a.0 a.1 t ≡ true → is_on_segment s t x ≡ true → is_on_segment a.0 a.1 x ≡ true

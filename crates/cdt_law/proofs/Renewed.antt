@@ -1,17 +1,18 @@
 -- What an edit makes fits into a newer sheet whose facets in the edit's zone have not changed.
 use Rattle.std.proofs.Common.{◌≡◌, ℕ, zero, suc, ◌+◌, ◌<◌, ◌≤◌, inl, inr, ◌⊎◌, refl, ap, subst, ◌∙◌, arith, List, ◌++◌, Bool, true, false}
 use Rattle.std.specs.Prelude.{not, Some, slice_get, cond}
-use Rattle.std.specs.List.{filter}
+use Rattle.std.specs.List.{All, list_all, filter}
 use Rattle.std.proofs.lemmas.Bool.{both_ways as clash, or_left, not-true}
 use Rattle.std.proofs.lemmas.List.Sums.{sum_by-append}
 use Rattle.std.proofs.lemmas.List.Folds.{list_any-append}
 use Rattle.ground_model.specs.declared.corner.Corner.{Corner}
 use Rattle.ground_model.specs.declared.corner.Corner.TheVariants.{At}
 use Rattle.ground_model.specs.declared.facet.Facet.{Facet}
+use Rattle.ground_model.specs.Place.{IsPlace}
 use Rattle.ground_model.specs.Mark.{is_among}
 use Rattle.ground_model.proofs.Elements.{both_true, any_gives, any_from, of_filter, in_filter}
 use Rattle.predicates.specs.Net.{Net, Triangle, Edge, edges_in, is_same_edge, is_triangle, times_in, rim, has, facet_by, facets_of}
-use Rattle.predicates.specs.Sheet.{IsSheet, IsClosed, IsLocallyDelaunay, rimmed}
+use Rattle.predicates.specs.Sheet.{IsSheet, IsClosed, IsLocallyDelaunay, rimmed, are_over}
 use Rattle.predicates.proofs.OneEach.{closed-once}
 use Rattle.predicates.proofs.Owners.{IsTurn, Still, Owner, owner}
 use Rattle.predicates.proofs.HasTriangles.{HasOwner, any-found, turn-of, has-owner}
@@ -120,20 +121,24 @@ regrouped-alike net sheet ts within once = record { over = record { points = ref
         sum n (suc x) (suc y) m e f g h k = absurd (k (omega arith) (omega arith))
 
 -- ---- the patch
+pub gone-has : (net other : Net) (x y z : Corner) → is_in (gone net other) x y z ≡ true → has net x y z ≡ true
+gone-has net other x y z e = let g = gone-of net other x y z e in turn-in net.triangles g.index g.triangle x y z g.at g.turn
+
+module _ (base planned newest after : Net) (b : IsSheet base) (p : IsSheet planned) (n : IsSheet newest) (out : Encloses base planned) (out' : Encloses planned base)
+    (inner : IsInner base planned) (inner' : IsInner planned base) (u : IsUnchanged base planned newest) where
+  newest-sheet : IsSheet (regrouped newest (gone base planned)) × (IsLocallyDelaunay newest → IsLocallyDelaunay (regrouped newest (gone base planned)))
+  newest-sheet = order_law newest (regrouped newest (gone base planned)) n (regrouped-alike newest n (gone base planned) u.destroyed (gone-once base planned b))
+
+  -- with what is made in the place of what is destroyed, over places, it is closed
+  pub renewed-closed : after.triangles ≡ gone planned base ++ without newest (gone base planned) → All IsPlace after.points → list_all (are_over after.points) after.triangles ≡ true → IsClosed after
+  renewed-closed triangles places over =
+      replaced-closed planned (regrouped newest (gone base planned)) after p newest-sheet.0 (gone base planned) (gone planned base) (without newest (gone base planned)) refl triangles (gone-has planned base)
+      (boundary_law base planned b p out out' inner inner') places over
+
 module _ (base planned newest after : Net) (b : IsSheet base) (p : IsSheet planned) (n : IsSheet newest) (out : Encloses base planned) (out' : Encloses planned base)
     (inner : IsInner base planned) (inner' : IsInner planned base) (u : IsUnchanged base planned newest) (r : IsRenewed base planned newest after) where
-  alike : AreAlike newest (regrouped newest (gone base planned))
-  alike = regrouped-alike newest n (gone base planned) u.destroyed (gone-once base planned b)
-
-  newest-sheet : IsSheet (regrouped newest (gone base planned)) × (IsLocallyDelaunay newest → IsLocallyDelaunay (regrouped newest (gone base planned)))
-  newest-sheet = order_law newest (regrouped newest (gone base planned)) n alike
-
-  made_in : (x y z : Corner) → is_in (gone planned base) x y z ≡ true → has planned x y z ≡ true
-  made_in x y z e = let g = gone-of planned base x y z e in turn-in planned.triangles g.index g.triangle x y z g.at g.turn
-
   closed : IsClosed after
-  closed = replaced-closed planned (regrouped newest (gone base planned)) after p newest-sheet.0 (gone base planned) (gone planned base) (without newest (gone base planned)) refl r.triangles made_in
-      (boundary_law base planned b p out out' inner inner') r.places r.over
+  closed = renewed-closed base planned newest after b p n out out' inner inner' u r.triangles r.places r.over
 
   -- of the edge of a made triangle that has another beyond it in after, the reverse is none of a made one
   module _ (x y z w : Corner) (made : is_in (gone planned base) x y z ≡ true) (other : is_in (without newest (gone base planned)) y x w ≡ true) where
@@ -190,7 +195,7 @@ module _ (base planned newest after : Net) (b : IsSheet base) (p : IsSheet plann
     others = without newest (gone base planned);
     newest_is = refl;
     after_is = r.triangles;
-    made_in = made_in;
+    made_in = gone-has planned base;
     boundary = boundary_law base planned b p out out' inner inner';
     beside = beside;
     made_counts = r.made_counts;
@@ -202,5 +207,5 @@ module _ (base planned newest after : Net) (b : IsSheet base) (p : IsSheet plann
 
 pub zone_law : ZoneLaw
 zone_law base planned newest after b p local_p n local_n out out' inner inner' u r =
-    let again = newest-sheet base planned newest after b p n out out' inner inner' u r in
+    let again = newest-sheet base planned newest after b p n out out' inner inner' u in
     patch_law planned (regrouped newest (gone base planned)) after p local_p again.0 (again.1 local_n) (patch base planned newest after b p n out out' inner inner' u r)

@@ -134,7 +134,7 @@ module _ (u v c : Coords) (h : Amid u v c) where
     b_right = below whole h.mean.l (side c v b) (side u v b) whole_some h.first (to_last b) x.b_right;
   }
 
-  collinear : side u v c ≡ pos 0
+  pub collinear : side u v c ≡ pos 0
   collinear = by_lt_z (side u v c) (pos 0) (λ lt. absurd (off lt)) (λ ge. by_lt_z (pos 0) (side u v c) (λ gt. absurd (off' gt)) (λ le. level (side u v c) ge le))
     where
       level : (z : ℤ) → pos 0 ≤ℤ z → z ≤ℤ pos 0 → z ≡ pos 0
@@ -178,6 +178,22 @@ module _ (u v c : Coords) (h : Amid u v c) where
 
       alone_last : (y z : ℤ) → y *ℤ pos 0 +ℤ z ≡ z
       alone_last y z = omega (arith, ints)
+
+-- it lies in each closed triangle over the two
+pub amid-within : (a b d c : Coords) → Amid a b c → pos 0 <ℤ side a b d → (pos 0 ≤ℤ side a b c) × ((pos 0 ≤ℤ side b d c) × (pos 0 ≤ℤ side d a c))
+amid-within a b d c h turned = (
+  level-up (side a b c) (collinear a b c h),
+  (
+    not_below (whole a b c h) h.mean.l (side b d c) (side a b d) (whole_some a b c h) (mean a b c h b d ∙ (λ i. pos h.mean.l *ℤ sym (side-turned a b d) i +ℤ pos h.mean.m *ℤ flat_ca b d b refl i) ∙ alone (pos h.mean.l *ℤ side a b d) (pos h.mean.m)) (weaken (side a b d) turned),
+    not_below (whole a b c h) h.mean.m (side d a c) (side a b d) (whole_some a b c h) (mean a b c h d a ∙ (λ i. pos h.mean.l *ℤ flat_bc d a a refl i +ℤ pos h.mean.m *ℤ side-turned d a b i) ∙ alone_last (pos h.mean.l) (pos h.mean.m *ℤ side a b d)) (weaken (side a b d) turned),
+  ),
+)
+  where
+    alone : (y z : ℤ) → y +ℤ z *ℤ pos 0 ≡ y
+    alone y z = omega (arith, ints)
+
+    alone_last : (y z : ℤ) → y *ℤ pos 0 +ℤ z ≡ z
+    alone_last y z = omega (arith, ints)
 
 -- ---- a good triangle
 module _ (more fewer : Site) (c : Coords) (thin : IsThinner more fewer c) (at_c : is_point more.points c ≡ true) where
@@ -244,12 +260,4 @@ module _ (more fewer : Site) (c : Coords) (thin : IsThinner more fewer c) (at_c 
 
   -- c lies strictly inside none of its edges
   pub not-amid : (a b d : Coords) → IsGood more (At a) (At b) (At d) → (c ≡ a → ⊥) → (c ≡ b → ⊥) → (c ≡ d → ⊥) → Amid a b c → ⊥
-  not-amid a b d good no_a no_b no_d h = outside a b d good no_a no_b no_d (level-up (side a b c) (collinear a b c h))
-      (not_below (whole a b c h) h.mean.l (side b d c) (side a b d) (whole_some a b c h) (mean a b c h b d ∙ (λ i. pos h.mean.l *ℤ sym (side-turned a b d) i +ℤ pos h.mean.m *ℤ flat_ca b d b refl i) ∙ alone (pos h.mean.l *ℤ side a b d) (pos h.mean.m)) (weaken (side a b d) good.turned))
-      (not_below (whole a b c h) h.mean.m (side d a c) (side a b d) (whole_some a b c h) (mean a b c h d a ∙ (λ i. pos h.mean.l *ℤ flat_bc d a a refl i +ℤ pos h.mean.m *ℤ side-turned d a b i) ∙ alone_last (pos h.mean.l) (pos h.mean.m *ℤ side a b d)) (weaken (side a b d) good.turned))
-    where
-      alone : (y z : ℤ) → y +ℤ z *ℤ pos 0 ≡ y
-      alone y z = omega (arith, ints)
-
-      alone_last : (y z : ℤ) → y *ℤ pos 0 +ℤ z ≡ z
-      alone_last y z = omega (arith, ints)
+  not-amid a b d good no_a no_b no_d h = let i = amid-within a b d c h good.turned in outside a b d good no_a no_b no_d i.0 i.1.0 i.1.1

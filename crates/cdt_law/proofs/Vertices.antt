@@ -26,15 +26,12 @@ use Rattle.cdt_law.proofs.WalkSteps.{at-corner}
 use Rattle.cdt_law.proofs.GoodInSheet.{over-first}
 use Rattle.cdt_law.proofs.Patched.{any-either, any-second}
 use Rattle.cdt_law.proofs.GoneFacets.{turn-in, places-of, gone-of}
-use Rattle.cdt_law.proofs.Renewed.{without-of, without-in}
+use Rattle.cdt_law.proofs.Renewed.{gone-has, without-of, without-in}
 use Rattle.cdt_law.proofs.SharedCorners.{corner_law}
 
 -- a corner of a sheet's triangle is one of its points, or far
 over-of : (net : Net) → IsSheet net → (x y z : Corner) → has net x y z ≡ true → is_over net.points x ≡ true
 over-of net sheet x y z e = let o = has-owner net x y z e in over-first net sheet o.owner.index o.owner.triangle x y o.owner.third o.owner.at o.owner.turn
-
-gone-has : (net other : Net) (x y z : Corner) → is_in (gone net other) x y z ≡ true → has net x y z ≡ true
-gone-has net other x y z e = let g = gone-of net other x y z e in turn-in net.triangles g.index g.triangle x y z g.at g.turn
 
 module _ (base planned newest after : Net) (b : IsSheet base) (p : IsSheet planned) (n : IsSheet newest) (out : Encloses base planned) (out' : Encloses planned base) (u : IsUnchanged base planned newest)
     (triangles : after.triangles ≡ gone planned base ++ without newest (gone base planned)) (c : AreCarried base planned newest after) where
