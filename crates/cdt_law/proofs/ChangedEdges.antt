@@ -38,7 +38,7 @@ pub record HasArea (net : Net) : Type 0 where
   pub at_z : is_point net.points z ≡ true
   pub left : pos 0 <ℤ side x y z
 
-module _ (net other : Net) (sheet : IsSheet net) (sheet' : IsSheet other) (out : Encloses net net) (inner : IsInner net other) (area : HasArea net) where
+module _ (net other whole : Net) (sheet : IsSheet net) (sheet' : IsSheet other) (inner : IsInner net other) (out : Encloses net whole) (area : HasArea whole) where
   -- a facet at an edge that the other net counts otherwise
   near : (p q w : Coords) (o : Owner net.triangles (At p) (At q)) → o.third ≡ At w → (net.count p q ≡ other.count p q → ⊥) → is_in (gone net other) (At p) (At q) o.third ≡ true
   near p q w o e differ = test (is_among (facets_of other) f.0) refl
@@ -52,7 +52,7 @@ module _ (net other : Net) (sheet : IsSheet net) (sheet' : IsSheet other) (out :
 
   module _ (p q : Coords) (j k : ℕ) (ahead : has net (At p) (At q) (Far j) ≡ true) (behind : has net (At q) (At p) (Far k) ≡ true) (left : pos 0 <ℤ corner_side (At p) (At q) (Far j)) where
     -- all points are on the line of an edge with a far corner on both sides
-    flat : (v : Coords) → is_point net.points v ≡ true → side p q v ≡ pos 0
+    flat : (v : Coords) → is_point whole.points v ≡ true → side p q v ≡ pos 0
     flat v at_v = level (side p q v) (side q p v) (not-left-is p q v (out (At p) (At q) j ahead refl refl v at_v)) (not-left-is q p v (out (At q) (At p) k behind refl refl v at_v)) (side-back p q v)
       where
         level : (x y : ℤ) → x ≤ℤ pos 0 → y ≤ℤ pos 0 → y ≡ neg_ℤ x → x ≡ pos 0

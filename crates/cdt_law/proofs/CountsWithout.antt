@@ -33,23 +33,23 @@ count-some test (y ∷ ys) x (inr i) e = more (cond (test y) 1 0) (count_by test
     more k n m e h = omega (arith, e, h)
 
 -- a line of those given has the piece
-record OfLine (points : List Coords) (lines : List Line) (u v : Coords) : Type 0 where
-  line : Line
-  of : In line lines
-  piece : IsPiece points line u v
+pub record OfLine (points : List Coords) (lines : List Line) (u v : Coords) : Type 0 where
+  pub line : Line
+  pub of : In line lines
+  pub piece : IsPiece points line u v
 
-of-line : (points : List Coords) (lines : List Line) (u v : Coords) → 0 < count_on points lines u v → OfLine points lines u v
+pub of-line : (points : List Coords) (lines : List Line) (u v : Coords) → 0 < count_on points lines u v → OfLine points lines u v
 unfolding count_on
 of-line points lines u v some =
     let found = any_gives (λ line. has_piece points line u v) lines (some_counted (λ line. has_piece points line u v) lines some) in
     record { line = found.0; of = found.1; piece = piece_of points found.0 u v found.2 }
 
-line-counts : (points : List Coords) (lines : List Line) (u v : Coords) (line : Line) → In line lines → IsPiece points line u v → 0 < count_on points lines u v
+pub line-counts : (points : List Coords) (lines : List Line) (u v : Coords) (line : Line) → In line lines → IsPiece points line u v → 0 < count_on points lines u v
 unfolding count_on
 line-counts points lines u v line i h = count-some (λ line. has_piece points line u v) lines line i (has_piece_from points line u v h)
 
 -- which of the two directions is counted
-either-way : (g : Coords → Coords → ℕ) (u v : Coords) → 0 < both_ways g u v → (0 < g u v) ⊎ (0 < g v u)
+pub either-way : (g : Coords → Coords → ℕ) (u v : Coords) → 0 < both_ways g u v → (0 < g u v) ⊎ (0 < g v u)
 either-way g u v some = by (is_before u v) some
   where
     by : (t : Bool) → 0 < (if t then g u v else g v u) → (0 < g u v) ⊎ (0 < g v u)
@@ -63,7 +63,7 @@ module _ (points rest : List Coords) (p : Coords) (without : (x : Coords) → is
       (λ e. has_piece_from rest line u v (piece-kept points rest p without at_p line u v (piece_of points line u v e) not_u not_v))
       (λ e. has_piece_from points line u v (piece-still points rest p without at_p line u v (piece_of rest line u v e) (λ on lt gt. not_in (record { on = on; after = lt; before = gt }))))
 
-  same-count : (u v : Coords) → (u ≡ p → ⊥) → (v ≡ p → ⊥) → (Inside u v p → ⊥) → count_on points lines u v ≡ count_on rest lines u v
+  pub same-count : (u v : Coords) → (u ≡ p → ⊥) → (v ≡ p → ⊥) → (Inside u v p → ⊥) → count_on points lines u v ≡ count_on rest lines u v
   unfolding count_on
   same-count u v not_u not_v not_in = λ i. count_by (λ line. same-pieces u v not_u not_v not_in line i) lines
 

@@ -24,18 +24,10 @@ use Rattle.cdt_law.specs.Pieces.{PieceLaw}
 use Rattle.cdt_law.proofs.GoodInSheet.{over-first}
 use Rattle.cdt_law.proofs.Patched.{among-append}
 use Rattle.cdt_law.proofs.GoneFacets.{among-some, turn-in, some-facet, Places, places-of, facet-among, facet-there, Gone, gone-of, gone-in}
-use Rattle.cdt_law.proofs.Renewed.{without-in}
+use Rattle.cdt_law.proofs.Renewed.{in-renewed, without-in}
 
 module _ (base planned newest after : Net) (b : IsSheet base) (s : IsSheet planned) (n : IsSheet newest) (out : Encloses planned base)
     (triangles : after.triangles ≡ gone planned base ++ without newest (gone base planned)) (p q : Coords) where
-  in-after : (0 < times_among (gone planned base) (At p, At q)) ⊎ (0 < times_among (without newest (gone base planned)) (At p, At q)) → 0 < times_in (edges_in after) (At p, At q)
-  in-after h = by (times_in (edges_in after) (At p, At q)) (times_among (gone planned base) (At p, At q)) (times_among (without newest (gone base planned)) (At p, At q))
-      (ap (λ ts. times_among ts (At p, At q)) triangles ∙ among-append (gone planned base) (without newest (gone base planned)) (At p, At q)) h
-    where
-      by : (k m r : ℕ) → k ≡ m + r → (0 < m) ⊎ (0 < r) → 0 < k
-      by k m r e (inl h) = omega (arith, e, h)
-      by k m r e (inr h) = omega (arith, e, h)
-
   -- where the newest triangle is destroyed, one is made in its place
   module _ (z : Corner) (lost : is_in (gone base planned) (At p) (At q) z ≡ true) (o : Owner planned.triangles (At p) (At q)) where
     g : Gone base planned (At p) (At q) z
@@ -79,10 +71,10 @@ module _ (base planned newest after : Net) (b : IsSheet base) (s : IsSheet plann
       o = owner newest (At p) (At q) (n.pieces p q some)
 
       by : (t : Bool) → is_in (gone base planned) (At p) (At q) o.third ≡ t → 0 < times_in (edges_in after) (At p, At q)
-      by false e = in-after (inr (among-some (without newest (gone base planned)) (At p) (At q) o.third (without-in newest (gone base planned) o.index o.triangle (At p) (At q) o.third o.at o.turn e)))
+      by false e = in-renewed base planned newest after triangles (At p) (At q) (inr (among-some (without newest (gone base planned)) (At p) (At q) o.third (without-in newest (gone base planned) o.index o.triangle (At p) (At q) o.third o.at o.turn e)))
       by true e =
           let planned_one = owner planned (At p) (At q) (s.pieces p q some') in
-          in-after (inl (among-some (gone planned base) (At p) (At q) planned_one.third (made o.third e planned_one)))
+          in-renewed base planned newest after triangles (At p) (At q) (inl (among-some (gone planned base) (At p) (At q) planned_one.third (made o.third e planned_one)))
 
 pub piece_law : PieceLaw
 piece_law base planned newest after b s n out triangles p q some some' = piece-edge base planned newest after b s n out triangles p q some some'

@@ -61,3 +61,4 @@ pub mod Vertices
 pub mod Stars
 pub mod EdgeCounts
 pub mod KeptPieces
+pub mod Standing

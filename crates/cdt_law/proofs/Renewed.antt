@@ -124,6 +124,16 @@ regrouped-alike net sheet ts within once = record { over = record { points = ref
 pub gone-has : (net other : Net) (x y z : Corner) → is_in (gone net other) x y z ≡ true → has net x y z ≡ true
 gone-has net other x y z e = let g = gone-of net other x y z e in turn-in net.triangles g.index g.triangle x y z g.at g.turn
 
+-- its edges are those of what is made and of what stays
+pub in-renewed : (base planned newest after : Net) → after.triangles ≡ gone planned base ++ without newest (gone base planned) → (x y : Corner)
+    → (0 < times_among (gone planned base) (x, y)) ⊎ (0 < times_among (without newest (gone base planned)) (x, y)) → 0 < times_in (edges_in after) (x, y)
+in-renewed base planned newest after triangles x y h = by (times_in (edges_in after) (x, y)) (times_among (gone planned base) (x, y)) (times_among (without newest (gone base planned)) (x, y))
+    (ap (λ ts. times_among ts (x, y)) triangles ∙ among-append (gone planned base) (without newest (gone base planned)) (x, y)) h
+  where
+    by : (k m r : ℕ) → k ≡ m + r → (0 < m) ⊎ (0 < r) → 0 < k
+    by k m r e (inl h) = omega (arith, e, h)
+    by k m r e (inr h) = omega (arith, e, h)
+
 module _ (base planned newest after : Net) (b : IsSheet base) (p : IsSheet planned) (n : IsSheet newest) (out : Encloses base planned) (out' : Encloses planned base)
     (inner : IsInner base planned) (inner' : IsInner planned base) (u : IsUnchanged base planned newest) where
   newest-sheet : IsSheet (regrouped newest (gone base planned)) × (IsLocallyDelaunay newest → IsLocallyDelaunay (regrouped newest (gone base planned)))
