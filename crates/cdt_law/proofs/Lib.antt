@@ -62,3 +62,5 @@ pub mod Stars
 pub mod EdgeCounts
 pub mod KeptPieces
 pub mod Standing
+pub mod LineTimes
+pub mod LineEdits
