@@ -64,3 +64,4 @@ pub mod KeptPieces
 pub mod Standing
 pub mod LineTimes
 pub mod LineEdits
+pub mod PointCounts
