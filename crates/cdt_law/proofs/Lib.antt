@@ -65,3 +65,4 @@ pub mod Standing
 pub mod LineTimes
 pub mod LineEdits
 pub mod PointCounts
+pub mod PointEdits

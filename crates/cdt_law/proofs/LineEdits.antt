@@ -6,18 +6,12 @@ use Rattle.ground_model.specs.Line.{Line, is_point}
 use Rattle.ground_model.specs.Crossings.{is_on_points}
 use Rattle.ground_model.proofs.LinePieces.{IsPiece}
 use Rattle.predicates.specs.Net.{Net, times_in, edges_in}
-use Rattle.predicates.specs.Sheet.{IsSheet}
 use Rattle.cdt_law.specs.Boundary.{gone}
 use Rattle.cdt_law.proofs.GoneFacets.{among-some, GoneOn}
 use Rattle.cdt_law.proofs.KeptPieces.{piece_law}
-use Rattle.cdt_law.proofs.ClearEdges.{none-inside, none-inside-back}
 use Rattle.cdt_law.proofs.PieceParts.{IsClear}
 use Rattle.cdt_law.proofs.LineTimes.{runs_on, AreNext, runs-same, runs-back, piece-runs}
-use Rattle.cdt_law.proofs.Standing.{Standing, OtherOn, Counted, edge-first, edge-last, bare, bare_sheet, made_alike, made-edge, other-edge, planned-edge, base-edge, newest-edge, parted, not-gone, not-made, made-on, destroyed-on}
-
--- the ends of an edge of a sheet
-next-on : (net : Net) → IsSheet net → (p q : Coords) → 0 < times_in (edges_in net) (At p, At q) → AreNext net.points p q
-next-on net sheet p q edge = record { first = edge-first net sheet p (At q) edge; last = edge-last net sheet (At p) q edge; clear = none-inside net sheet p q edge; clear_back = none-inside-back net sheet p q edge }
+use Rattle.cdt_law.proofs.Standing.{Standing, OtherOn, Counted, next-on, bare, bare_sheet, made_alike, made-edge, other-edge, planned-edge, base-edge, newest-edge, parted, not-gone, not-made, made-on, destroyed-on}
 
 module _ (base planned newest after : Net) (s : Standing base planned newest after) (line : Line) (on : is_on_points base.points line ≡ true) (even : (p q : Coords) → after.count p q ≡ after.count q p) where
   AreThere : Coords → Coords → Type 0

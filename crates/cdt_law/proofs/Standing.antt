@@ -32,6 +32,8 @@ use Rattle.cdt_law.proofs.GoneFacets.{among-some, turn-in, Places, places-of, Go
 use Rattle.cdt_law.proofs.Renewed.{gone-has, renewed-closed, in-renewed, edge-once, without-of, without-in, zone_law}
 use Rattle.cdt_law.proofs.Vertices.{vertex_law}
 use Rattle.cdt_law.proofs.EdgeCounts.{count_law}
+use Rattle.cdt_law.proofs.ClearEdges.{none-inside, none-inside-back}
+use Rattle.cdt_law.proofs.LineTimes.{AreNext}
 use Rattle.cdt_law.proofs.ChangedEdges.{HasArea, changed}
 
 pub record Standing (base planned newest after : Net) : Type 0 where
@@ -72,6 +74,10 @@ edge-first net sheet p y some = let o = owner net (At p) y some in over-first ne
 
 pub edge-last : (net : Net) → IsSheet net → (x : Corner) (q : Coords) → 0 < times_in (edges_in net) (x, At q) → is_point net.points q ≡ true
 edge-last net sheet x q some = let o = owner net x (At q) some in over-first net sheet o.index o.triangle (At q) o.third x o.at (turn-next o.triangle x (At q) o.third o.turn)
+
+-- the ends of an edge of a sheet
+pub next-on : (net : Net) → IsSheet net → (p q : Coords) → 0 < times_in (edges_in net) (At p, At q) → AreNext net.points p q
+next-on net sheet p q edge = record { first = edge-first net sheet p (At q) edge; last = edge-last net sheet (At p) q edge; clear = none-inside net sheet p q edge; clear_back = none-inside-back net sheet p q edge }
 
 module _ (base planned newest after : Net) (s : Standing base planned newest after) where
   pub corners : AreCorners after
