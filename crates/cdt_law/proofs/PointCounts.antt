@@ -22,6 +22,14 @@ use Rattle.cdt_law.proofs.LineTimes.{AreNext}
 pub Between : Coords → Coords → Coords → Type 0
 Between u v x = Inside u v x ⊎ Inside v u x
 
+pub inside-between : (u v x : Coords) → Inside u v x → Between u v x
+unfolding Between
+inside-between u v x h = inl h
+
+pub inside-between-back : (u v x : Coords) → Inside v u x → Between u v x
+unfolding Between
+inside-between-back u v x h = inr h
+
 pub between-back : (u v x : Coords) → Between u v x → Between v u x
 unfolding Between
 between-back u v x (inl h) = inr h
