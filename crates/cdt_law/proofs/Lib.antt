@@ -64,5 +64,6 @@ pub mod KeptPieces
 pub mod Standing
 pub mod LineTimes
 pub mod LineEdits
+pub mod TableCounts
 pub mod PointCounts
 pub mod PointEdits
