@@ -5,7 +5,7 @@ use Rattle.std.proofs.lemmas.Bool.{and_parts}
 use Rattle.ground_model.specs.declared.corner.Corner.{Corner}
 use Rattle.ground_model.specs.declared.corner.Corner.TheVariants.{At}
 use Rattle.ground_model.specs.declared.facet.Facet.{Facet}
-use Rattle.ground_model.specs.Place.{Coords, is_same}
+use Rattle.ground_model.specs.Place.{Coords, is_before, is_same}
 use Rattle.ground_model.specs.Mark.{is_among, is_same_facet, edges}
 use Rattle.ground_model.specs.Corner.{corner_at}
 use Rattle.ground_model.proofs.Elements.{In, any_gives}
@@ -57,6 +57,7 @@ pub record FacetIn (net : Net) (f : Facet) : Type 0 where
   pub at : slice_get net.triangles index ≡ Some triangle
   pub is : facet_by net triangle.a triangle.b triangle.c ≡ Some f
   pub turn : IsTurn triangle (At f.a) (At f.b) (At f.c)
+  pub least : (is_before f.a f.b && is_before f.a f.c) ≡ true
   pub ab : f.ab ≡ net.count f.a f.b
   pub bc : f.bc ≡ net.count f.b f.c
   pub ca : f.ca ≡ net.count f.c f.a
@@ -72,7 +73,7 @@ facet-in-net net sheet f e = by (kept-of (λ t. facet_by net t.a t.b t.c) (is_sa
         first = first-turn net sheet h.index h.item h.made h.at h.is
 
         on : FacetIn net (facet_on net first.a first.b first.c)
-        on = record { index = h.index; triangle = h.item; at = h.at; is = h.is ∙ ap Some first.is; turn = first.turn; ab = refl; bc = refl; ca = refl }
+        on = record { index = h.index; triangle = h.item; at = h.at; is = h.is ∙ ap Some first.is; turn = first.turn; least = first.least; ab = refl; bc = refl; ca = refl }
 
 -- the sheet has a triangle at each edge of it
 pub triangle-at : (net : Net) → IsSheet net → (f : Facet) → is_among (facets_of net) f ≡ true → (p q : Coords) → In (p, q) (edges f) → (r : Coords) × (has net (At p) (At q) (At r) ≡ true)

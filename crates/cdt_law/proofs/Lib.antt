@@ -67,3 +67,4 @@ pub mod LineEdits
 pub mod TableCounts
 pub mod PointCounts
 pub mod PointEdits
+pub mod CarriedFacets
