@@ -68,3 +68,4 @@ pub mod TableCounts
 pub mod PointCounts
 pub mod PointEdits
 pub mod CarriedFacets
+pub mod PlanZone
