@@ -69,3 +69,4 @@ pub mod PointCounts
 pub mod PointEdits
 pub mod CarriedFacets
 pub mod PlanZone
+pub mod PlanPoints

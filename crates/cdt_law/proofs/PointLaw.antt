@@ -130,7 +130,7 @@ only-corner more fewer p kept none f = filter-among (λ f. not (is_facet_of fewe
     by false e = refl
 
 -- ---- a point added
-added-points : (m : finmap.FinMap place_cmp ℤ) (p : Coords) (z : ℤ) → is_point (finmap.keys m) p ≡ false → (x : Coords) → is_point (finmap.keys m) x ≡ (is_point (finmap.keys (finmap.insert m p z)) x && not (is_same p x))
+pub added-points : (m : finmap.FinMap place_cmp ℤ) (p : Coords) (z : ℤ) → is_point (finmap.keys m) p ≡ false → (x : Coords) → is_point (finmap.keys m) x ≡ (is_point (finmap.keys (finmap.insert m p z)) x && not (is_same p x))
 added-points m p z none x =
     is_point-keys m x ∙ one_more (eq_by_cmp place_cmp x p) (finmap.get m x) absent
     ∙ ap (λ k. k && not (eq_by_cmp place_cmp x p)) (sym (is_point-keys (finmap.insert m p z) x ∙ ap is_some (finmap.get-insert places_total m p z x)))
@@ -144,19 +144,19 @@ added-points m p z none x =
     absent : eq_by_cmp place_cmp x p ≡ true → is_some (finmap.get m x) ≡ false
     absent e = sym (is_point-keys m x) ∙ ap (is_point (finmap.keys m)) (same_of_is_same x p (sym (same_test x p) ∙ e)) ∙ none
 
-added-it : (m : finmap.FinMap place_cmp ℤ) (p : Coords) (z : ℤ) → is_point (finmap.keys (finmap.insert m p z)) p ≡ true
+pub added-it : (m : finmap.FinMap place_cmp ℤ) (p : Coords) (z : ℤ) → is_point (finmap.keys (finmap.insert m p z)) p ≡ true
 added-it m p z =
     is_point-keys (finmap.insert m p z) p ∙ ap is_some (finmap.get-insert places_total m p z p)
     ∙ ap (λ t. is_some (cond t (Some z) (finmap.get m p))) (same_test p p ∙ is_same_itself p)
 
-added-places : (m : finmap.FinMap place_cmp ℤ) (p : Coords) (z : ℤ) → is_point (finmap.keys m) p ≡ false → All IsPlace (finmap.keys m) → IsPlace p → All IsPlace (finmap.keys (finmap.insert m p z))
+pub added-places : (m : finmap.FinMap place_cmp ℤ) (p : Coords) (z : ℤ) → is_point (finmap.keys m) p ≡ false → All IsPlace (finmap.keys m) → IsPlace p → All IsPlace (finmap.keys (finmap.insert m p z))
 added-places m p z none places place = each_from IsPlace (finmap.keys (finmap.insert m p z)) (λ x i. by x (is_same p x) refl (is_point_in (finmap.keys (finmap.insert m p z)) x i))
   where
     by : (x : Coords) (t : Bool) → is_same p x ≡ t → is_point (finmap.keys (finmap.insert m p z)) x ≡ true → IsPlace x
     by x true e at = subst IsPlace (same_of_is_same p x e) place
     by x false e at = each_at IsPlace (finmap.keys m) x places (in_points (finmap.keys m) x (added-points m p z none x ∙ and_from (is_point (finmap.keys (finmap.insert m p z)) x) (not (is_same p x)) at (not_from_false (is_same p x) e)))
 
-added-kept : (c : Content) (p : Coords) (z : ℤ) → IsJoined c → IsPlace p → is_point (points_of c) p ≡ false → (f : Facet) → is_among (tri (after c (AddPoint p z))) f ≡ true → is_corner_of p f ≡ false → is_facet_of c f ≡ true
+pub added-kept : (c : Content) (p : Coords) (z : ℤ) → IsJoined c → IsPlace p → is_point (points_of c) p ≡ false → (f : Facet) → is_among (tri (after c (AddPoint p z))) f ≡ true → is_corner_of p f ≡ false → is_facet_of c f ≡ true
 unfolding after
 added-kept c p z joined place none f e free =
     sym (is_among-tri c f) ∙ tri-test c f
@@ -165,7 +165,7 @@ added-kept c p z joined place none f e free =
     (content-counts (after c (AddPoint p z))) (content-counts c) f (sym (tri-test (after c (AddPoint p z)) f) ∙ e) free
 
 -- ---- a point removed
-removed-points : (m : finmap.FinMap place_cmp ℤ) (p : Coords) (x : Coords) → is_point (finmap.keys (finmap.remove m p)) x ≡ (is_point (finmap.keys m) x && not (is_same p x))
+pub removed-points : (m : finmap.FinMap place_cmp ℤ) (p : Coords) (x : Coords) → is_point (finmap.keys (finmap.remove m p)) x ≡ (is_point (finmap.keys m) x && not (is_same p x))
 removed-points m p x =
     is_point-keys (finmap.remove m p) x ∙ ap is_some (finmap.get-remove places_total m p x) ∙ one_less (eq_by_cmp place_cmp x p) (finmap.get m x)
     ∙ ap (λ t. is_some (finmap.get m x) && not t) ((eq_by_cmp_equiv places_total).symm x p ∙ same_test p x)
@@ -184,7 +184,7 @@ removed-it m p = removed-points m p p ∙ ap (λ t. is_point (finmap.keys m) p &
     none true = refl
     none false = refl
 
-removed-kept : (c : Content) (p : Coords) → IsJoined c → is_point (points_of c) p ≡ true → All (λ line. has_place p line ≡ false) (lines_of c)
+pub removed-kept : (c : Content) (p : Coords) → IsJoined c → is_point (points_of c) p ≡ true → All (λ line. has_place p line ≡ false) (lines_of c)
     → (f : Facet) → is_among (tri c) f ≡ true → is_corner_of p f ≡ false → is_facet_of (after c (RemovePoint p)) f ≡ true
 unfolding after
 removed-kept c p joined at_p unused f e free =
