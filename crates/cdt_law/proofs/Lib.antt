@@ -70,3 +70,4 @@ pub mod PointEdits
 pub mod CarriedFacets
 pub mod PlanZone
 pub mod PlanPoints
+pub mod PlanLaw

@@ -34,14 +34,14 @@ use Rattle.cdt_law.proofs.FacetLaws.{facet_law}
 use Rattle.cdt_law.proofs.GoneFacets.{Places, places-of, some-facet, facet-among, HasFacet, facet-there, Gone, gone-of}
 use Rattle.cdt_law.proofs.FacetEdges.{edge-in, edge-of, triangle-at, facet-counts, gone-facet}
 
--- ---- facets of a content
-tri-in : (c : Content) (f : Facet) → is_among (tri c) f ≡ true → In f (tri c)
+-- ---- facets of a list
+pub among-in : (fs : List Facet) (f : Facet) → is_among fs f ≡ true → In f fs
 unfolding is_among
-tri-in c f e = let found = any_gives (is_same_facet f) (tri c) e in subst (λ k. In k (tri c)) (sym (same-facet f found.0 found.2)) found.1
+among-in fs f e = let found = any_gives (is_same_facet f) fs e in subst (λ k. In k fs) (sym (same-facet f found.0 found.2)) found.1
 
-in-tri : (c : Content) (f : Facet) → In f (tri c) → is_among (tri c) f ≡ true
+pub in-among : (fs : List Facet) (f : Facet) → In f fs → is_among fs f ≡ true
 unfolding is_among
-in-tri c f i = any_from (is_same_facet f) (tri c) f i (facet-same f f refl)
+in-among fs f i = any_from (is_same_facet f) fs f i (facet-same f f refl)
 
 or-none : (x y : Bool) → (x || y) ≡ false → (x ≡ false) × (y ≡ false)
 or-none false false e = (refl, refl)
@@ -70,36 +70,36 @@ met : (c : Content) (net : Net) → IsSheet net → ((f : Facet) → is_among (f
 met c net sheet facets f off p q i =
     let beyond = not-off (is_met (tri c) (p, q)) (none_at (λ x. not (is_met (tri c) x)) (edges f) (p, q) off i) in
     let g = any_gives (λ g. has_edge g q p) (tri c) beyond in
-    triangle-at net sheet g.0 (facets g.0 ∙ in-tri c g.0 g.1) q p (edge-of g.0 q p g.2)
+    triangle-at net sheet g.0 (facets g.0 ∙ in-among (tri c) g.0 g.1) q p (edge-of g.0 q p g.2)
 
 module _ (plan : Plan) (m : HasMeshes plan) (s : Stands plan) where
-  facets-base : (f : Facet) → is_among (facets_of (base_net plan)) f ≡ is_among (tri plan.base) f
+  pub facets-base : (f : Facet) → is_among (facets_of (base_net plan)) f ≡ is_among (tri plan.base) f
   facets-base f = facet_law plan.base plan.before m.before.sheet m.before.local f
 
-  facets-planned : (f : Facet) → is_among (facets_of (planned_net plan)) f ≡ is_among (tri (after plan.base plan.edit)) f
+  pub facets-planned : (f : Facet) → is_among (facets_of (planned_net plan)) f ≡ is_among (tri (after plan.base plan.edit)) f
   facets-planned f = facet_law (after plan.base plan.edit) plan.planned m.planned.sheet m.planned.local f
 
-  facets-newest : (f : Facet) → is_among (facets_of (newest_net plan)) f ≡ is_among (tri plan.newest) f
+  pub facets-newest : (f : Facet) → is_among (facets_of (newest_net plan)) f ≡ is_among (tri plan.newest) f
   facets-newest f = facet_law plan.newest plan.now m.now.sheet m.now.local f
 
   -- ---- what is destroyed, and what is made
   pub destroyed-in : (f : Facet) → is_among (facets_of (base_net plan)) f ≡ true → is_among (facets_of (planned_net plan)) f ≡ false → In f (destroyed plan.base plan.edit)
   unfolding destroyed
   destroyed-in f e none =
-      in_filter (λ f. not (is_facet_of (after plan.base plan.edit) f)) (tri plan.base) f (tri-in plan.base f (sym (facets-base f) ∙ e))
+      in_filter (λ f. not (is_facet_of (after plan.base plan.edit) f)) (tri plan.base) f (among-in (tri plan.base) f (sym (facets-base f) ∙ e))
       (not_from_false (is_facet_of (after plan.base plan.edit) f) (sym (is_among-tri (after plan.base plan.edit) f) ∙ sym (facets-planned f) ∙ none))
 
   pub made-in : (f : Facet) → is_among (facets_of (planned_net plan)) f ≡ true → is_among (facets_of (base_net plan)) f ≡ false → In f (made plan.base plan.edit)
   unfolding made
   made-in f e none =
-      in_filter (λ f. not (is_facet_of plan.base f)) (tri (after plan.base plan.edit)) f (tri-in (after plan.base plan.edit) f (sym (facets-planned f) ∙ e))
+      in_filter (λ f. not (is_facet_of plan.base f)) (tri (after plan.base plan.edit)) f (among-in (tri (after plan.base plan.edit)) f (sym (facets-planned f) ∙ e))
       (not_from_false (is_facet_of plan.base f) (sym (is_among-tri plan.base f) ∙ sym (facets-base f) ∙ none))
 
   pub of-destroyed : (f : Facet) → In f (destroyed plan.base plan.edit) → (is_among (facets_of (base_net plan)) f ≡ true) × (is_among (facets_of (planned_net plan)) f ≡ false)
   unfolding destroyed
   of-destroyed f i =
       let kept = of_filter (λ f. not (is_facet_of (after plan.base plan.edit) f)) (tri plan.base) f i in
-      (facets-base f ∙ in-tri plan.base f kept.0, facets-planned f ∙ is_among-tri (after plan.base plan.edit) f ∙ off (is_facet_of (after plan.base plan.edit) f) kept.1)
+      (facets-base f ∙ in-among (tri plan.base) f kept.0, facets-planned f ∙ is_among-tri (after plan.base plan.edit) f ∙ off (is_facet_of (after plan.base plan.edit) f) kept.1)
     where
       off : (x : Bool) → not x ≡ true → x ≡ false
       off true e = cc
@@ -109,7 +109,7 @@ module _ (plan : Plan) (m : HasMeshes plan) (s : Stands plan) where
   unfolding made
   of-made f i =
       let kept = of_filter (λ f. not (is_facet_of plan.base f)) (tri (after plan.base plan.edit)) f i in
-      (facets-planned f ∙ in-tri (after plan.base plan.edit) f kept.0, facets-base f ∙ is_among-tri plan.base f ∙ off (is_facet_of plan.base f) kept.1)
+      (facets-planned f ∙ in-among (tri (after plan.base plan.edit)) f kept.0, facets-base f ∙ is_among-tri plan.base f ∙ off (is_facet_of plan.base f) kept.1)
     where
       off : (x : Bool) → not x ≡ true → x ≡ false
       off true e = cc
@@ -156,7 +156,7 @@ module _ (plan : Plan) (m : HasMeshes plan) (s : Stands plan) where
     shaken-by : (f g : Facet) → is_among (facets_of (base_net plan)) f ≡ true → In g (destroyed plan.base plan.edit) → (is_same_facet f g || share_edge f g) ≡ true → In f (shaken plan.base plan.edit)
     unfolding shaken
     shaken-by f g e i near =
-        in_filter (λ f. list_any (λ g. is_same_facet f g || share_edge f g) (destroyed plan.base plan.edit)) (tri plan.base) f (tri-in plan.base f (sym (facets-base f) ∙ e))
+        in_filter (λ f. list_any (λ g. is_same_facet f g || share_edge f g) (destroyed plan.base plan.edit)) (tri plan.base) f (among-in (tri plan.base) f (sym (facets-base f) ∙ e))
         (any_from (λ g. is_same_facet f g || share_edge f g) (destroyed plan.base plan.edit) g i near)
 
     share : (f g : Facet) (p q : Coords) → In (q, p) (edges f) → In (p, q) (edges g) → share_edge f g ≡ true
