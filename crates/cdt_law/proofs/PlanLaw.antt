@@ -69,7 +69,7 @@ module _ (plan : Plan) (m : HasMeshes plan) (s : Stands plan) where
     enclosed = out';
     inner = inner-base plan m s;
     inner_planned = inner-planned plan m s;
-    some = some-gone plan m s;
+    some = some-gone plan m s facets;
     unchanged = unchanged plan m s facets;
     alike = alike plan m s facets;
     triangles = refl;

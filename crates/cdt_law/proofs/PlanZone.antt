@@ -54,15 +54,15 @@ not-off false e = cc
 
 -- the plan is no hull plan
 record Inner (plan : Plan) : Type 0 where
-  some : nat_eq (length (destroyed plan.base plan.edit)) 0 ≡ false
+  some : nat_eq (length (planned_facets plan.base plan.edit)) 0 ≡ false
   before : list_any (is_on_hull (tri plan.base)) (destroyed plan.base plan.edit) ≡ false
   planned : list_any (is_on_hull (tri (after plan.base plan.edit))) (made plan.base plan.edit) ≡ false
 
 inner-of : (plan : Plan) → Stands plan → Inner plan
 unfolding is_hull_plan
 inner-of plan s =
-    let outer = or-none (nat_eq (length (destroyed plan.base plan.edit)) 0 || list_any (is_on_hull (tri plan.base)) (destroyed plan.base plan.edit)) (list_any (is_on_hull (tri (after plan.base plan.edit))) (made plan.base plan.edit)) s.inner in
-    let first = or-none (nat_eq (length (destroyed plan.base plan.edit)) 0) (list_any (is_on_hull (tri plan.base)) (destroyed plan.base plan.edit)) outer.0 in
+    let outer = or-none (nat_eq (length (planned_facets plan.base plan.edit)) 0 || list_any (is_on_hull (tri plan.base)) (destroyed plan.base plan.edit)) (list_any (is_on_hull (tri (after plan.base plan.edit))) (made plan.base plan.edit)) s.inner in
+    let first = or-none (nat_eq (length (planned_facets plan.base plan.edit)) 0) (list_any (is_on_hull (tri plan.base)) (destroyed plan.base plan.edit)) outer.0 in
     record { some = first.0; before = first.1; planned = outer.1 }
 
 -- an edge of a facet that is not on the hull has a triangle beyond it
@@ -136,16 +136,24 @@ module _ (plan : Plan) (m : HasMeshes plan) (s : Stands plan) where
       let r = met (after plan.base plan.edit) (planned_net plan) m.planned.sheet facets-planned g.facet off ps.p ps.q (edge-in (planned_net plan) m.planned.sheet g.index g.triangle g.facet g.at g.is ps.p ps.q c turn) in
       record { third = r.0; there = (λ i. has (planned_net plan) (ps.second i) (ps.first i) (At r.0)) ∙ r.1 }
 
-  -- it destroys something
-  pub some-gone : HasGone (base_net plan) (planned_net plan)
-  some-gone = by (destroyed plan.base plan.edit) (inner-of plan s).some (λ f i. of-destroyed f i)
-    where
-      by : (fs : List Facet) → nat_eq (length fs) 0 ≡ false → ((f : Facet) → In f fs → (is_among (facets_of (base_net plan)) f ≡ true) × (is_among (facets_of (planned_net plan)) f ≡ false)) → HasGone (base_net plan) (planned_net plan)
-      by [] e h = cc
-      by (f ∷ fs) e h = let each = h f (inl refl) in gone-facet (base_net plan) (planned_net plan) m.before.sheet f each.0 each.1
-
   -- ---- the zone
   module _ (facets_planned : planned_facets plan.base plan.edit ≡ shaken plan.base plan.edit) where
+    -- it destroys something
+    pub some-gone : HasGone (base_net plan) (planned_net plan)
+    unfolding shaken
+    some-gone = by (planned_facets plan.base plan.edit) (inner-of plan s).some refl
+      where
+        of-shaken : (f : Facet) → In f (shaken plan.base plan.edit) → HasGone (base_net plan) (planned_net plan)
+        of-shaken f i =
+            let near = (of_filter (λ f. list_any (λ g. is_same_facet f g || share_edge f g) (destroyed plan.base plan.edit)) (tri plan.base) f i).1 in
+            let g = any_gives (λ g. is_same_facet f g || share_edge f g) (destroyed plan.base plan.edit) near in
+            let each = of-destroyed g.0 g.1 in
+            gone-facet (base_net plan) (planned_net plan) m.before.sheet g.0 each.0 each.1
+
+        by : (fs : List Facet) → nat_eq (length fs) 0 ≡ false → planned_facets plan.base plan.edit ≡ fs → HasGone (base_net plan) (planned_net plan)
+        by [] e h = cc
+        by (f ∷ fs) e h = of-shaken f (subst (λ gs. In f gs) (sym h ∙ facets_planned) (inl refl))
+
     in-zone : (f : Facet) → In f (shaken plan.base plan.edit) → is_among (facets_of (newest_net plan)) f ≡ true
     unfolding zone
     in-zone f i =

@@ -11,7 +11,7 @@ use Rattle.ground_model.specs.Place.{Coords}
 use Rattle.ground_model.specs.Content.{Content, after}
 use Rattle.ground_model.specs.Tri.{tri}
 use Rattle.ground_model.specs.Mark.{is_among, edges}
-use Rattle.ground_model.specs.Zone.{zone, destroyed, made}
+use Rattle.ground_model.specs.Zone.{zone, planned_facets, destroyed, made}
 use Rattle.ground_model.specs.Planar.{IsPlanar}
 use Rattle.ground_model.specs.Refusal.{edit_refusal}
 use Rattle.ground_model.specs.Answer.{is_there}
@@ -29,9 +29,9 @@ is_met fs x = list_any (λ f. has_edge f x.1 x.0) fs
 abbrev pub is_on_hull : List Facet → Facet → Bool
 is_on_hull fs f = list_any (λ x. not (is_met fs x)) (edges f)
 
--- whether the plan of the edit is a hull plan: it destroys no facet, or one that it destroys or makes is on the hull
+-- whether the plan of the edit is a hull plan: its zone has no facet, since it destroys none, or one that it destroys or makes is on the hull
 unfoldable pub is_hull_plan : Content → Edit → Bool
-is_hull_plan c edit = nat_eq (length (destroyed c edit)) 0 || list_any (is_on_hull (tri c)) (destroyed c edit) || list_any (is_on_hull (tri (after c edit))) (made c edit)
+is_hull_plan c edit = nat_eq (length (planned_facets c edit)) 0 || list_any (is_on_hull (tri c)) (destroyed c edit) || list_any (is_on_hull (tri (after c edit))) (made c edit)
 
 -- the triangles are a locally Delaunay sheet of the content
 pub record IsMesh (c : Content) (triangles : List Triangle) : Type 0 where
