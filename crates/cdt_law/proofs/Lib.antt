@@ -70,4 +70,6 @@ pub mod PointEdits
 pub mod CarriedFacets
 pub mod PlanZone
 pub mod PlanPoints
+pub mod Able
 pub mod PlanLaw
+pub mod StalePlans

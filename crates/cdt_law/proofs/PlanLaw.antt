@@ -50,6 +50,7 @@ use Rattle.cdt_law.proofs.PointCounts.{both-even}
 use Rattle.cdt_law.proofs.PointEdits.{IsLess, point-added, point-taken}
 use Rattle.cdt_law.proofs.Standing as standing
 use Rattle.cdt_law.proofs.CarriedFacets.{made-facet, kept-facet, after-facet}
+use Rattle.cdt_law.proofs.Able.{Able, able-of}
 use Rattle.cdt_law.proofs.PlanZone.{among-in, in-among, facets-newest, destroyed-in, made-in, of-destroyed, of-made, inner-base, inner-planned, some-gone, unchanged, alike}
 use Rattle.cdt_law.proofs.PlanPoints.{carried-same, carried-more, carried-less, at-its-corner}
 
@@ -121,48 +122,23 @@ module _ (plan : Plan) (m : HasMeshes plan) (s : Stands plan) where
               kept-facet (base_net plan) (planned_net plan) (newest_net plan) (after_net plan) st c f (facets-newest plan m s f ∙ both.0)
               (λ b p. off (is_among (destroyed plan.base plan.edit) f) both.1 (in-among (destroyed plan.base plan.edit) f (destroyed-in plan m s f b p)))
 
--- ---- what a lawful edit says
-module _ (c : Content) (limits : Limits) where
-  free-place : (p : Coords) (z : ℤ) → edit_refusal c limits (AddPoint p z) ≡ None → is_point (points_of c) p ≡ false
-  unfolding edit_refusal
-  free-place p z e = is_point-keys c.points p ∙ by (level_of c p) e
-    where
-      by : (o : Option ℤ) → first_of (because Occupied o ∷ when (nat_le limits.points (finmap.len c.points)) PointsFull ∷ []) ≡ None → is_some o ≡ false
-      by None e = refl
-      by (Some y) e = cc
-
-  there-place : (p : Coords) → edit_refusal c limits (RemovePoint p) ≡ None → is_point (points_of c) p ≡ true
-  unfolding edit_refusal
-  there-place p e = is_point-keys c.points p ∙ by (finmap.contains_key c.points p) _ e
-    where
-      by : (t : Bool) (rest : List (Option Refusal)) → first_of (when (not t) (Absent p) ∷ rest) ≡ None → t ≡ true
-      by true rest e = refl
-      by false rest e = cc
-
-  unused-place : (p : Coords) → edit_refusal c limits (RemovePoint p) ≡ None → All (λ line. has_place p line ≡ false) (lines_of c)
-  unused-place p e = each_from (λ line. has_place p line ≡ false) (lines_of c) (no_line_where (has_place p) c.table (point_parts c limits p e).0)
-
-  on-its-points : (kind : LineKind) (places : List Coords) → edit_refusal c limits (AddLine kind places) ≡ None → is_on_points (points_of c) (record { kind = kind; places = places }) ≡ true
-  unfolding edit_refusal
-  on-its-points kind places e = places_on c (record { kind = kind; places = places }) (line_parts c limits (record { kind = kind; places = places }) e).0
-
-  there-line : (id : LineId) → edit_refusal c limits (RemoveLine id) ≡ None → (line : Line) × (finmap.get c.table.lines id.0 ≡ Some line)
-  unfolding edit_refusal
-  there-line id e = by (finmap.get c.table.lines id.0) refl e
-    where
-      by : (o : Option Line) → finmap.get c.table.lines id.0 ≡ o → when (not (is_some o)) (NoLine id) ≡ None → (line : Line) × (finmap.get c.table.lines id.0 ≡ Some line)
-      by None f e = cc
-      by (Some line) f e = (line, f)
+-- ---- what is known of the two contents
+pub record Apt (plan : Plan) : Type 0 where
+  pub planar : IsPlanar plan.base
+  pub planar_now : IsPlanar plan.newest
+  pub able : Able plan.base plan.edit
+  pub able_now : Able plan.newest plan.edit
+  pub same_line : (id : LineId) → plan.edit ≡ RemoveLine id → finmap.get plan.newest.table.lines id.0 ≡ finmap.get plan.base.table.lines id.0
 
 joined-of : (c : Content) (triangles : List Triangle) → IsMesh c triangles → IsPlanar c → IsJoined c
 joined-of c triangles m planar = record { places = m.sheet.places; on_points = planar.on_points }
 
 -- ---- kind of edit by kind
-module _ (limits : Limits) (base newest : Content) (before planned now : List Triangle) where
+module _ (base newest : Content) (before planned now : List Triangle) where
   abbrev plan_of : Edit → Plan
   plan_of edit = record { edit = edit; base = base; before = before; planned = planned; newest = newest; now = now }
 
-  add-line : (kind : LineKind) (places : List Coords) → HasMeshes (plan_of (AddLine kind places)) → IsLawfulTwice limits (plan_of (AddLine kind places)) → Stands (plan_of (AddLine kind places)) → IsRight (plan_of (AddLine kind places))
+  add-line : (kind : LineKind) (places : List Coords) → HasMeshes (plan_of (AddLine kind places)) → Apt (plan_of (AddLine kind places)) → Stands (plan_of (AddLine kind places)) → IsRight (plan_of (AddLine kind places))
   unfolding after
   add-line kind places m l s = right-by plan m s st counted
     where
@@ -174,10 +150,10 @@ module _ (limits : Limits) (base newest : Content) (before planned now : List Tr
           (carried-same (base_net plan) (planned_net plan) (newest_net plan) (after_net plan) refl refl) m.now.sheet.places
 
       counted : standing.Counted (base_net plan) (planned_net plan) (newest_net plan) (after_net plan) st
-      counted = line-added (base_net plan) (planned_net plan) (newest_net plan) (after_net plan) st (record { kind = kind; places = places }) (on-its-points base limits kind places l.lawful)
+      counted = line-added (base_net plan) (planned_net plan) (newest_net plan) (after_net plan) st (record { kind = kind; places = places }) l.able
           (both-even (count (after newest (AddLine kind places)))) refl refl (line-more base kind places l.planar) (line-more newest kind places l.planar_now)
 
-  remove-line : (id : LineId) → HasMeshes (plan_of (RemoveLine id)) → IsLawfulTwice limits (plan_of (RemoveLine id)) → Stands (plan_of (RemoveLine id)) → IsRight (plan_of (RemoveLine id))
+  remove-line : (id : LineId) → HasMeshes (plan_of (RemoveLine id)) → Apt (plan_of (RemoveLine id)) → Stands (plan_of (RemoveLine id)) → IsRight (plan_of (RemoveLine id))
   unfolding after
   remove-line id m l s = right-by plan m s st counted
     where
@@ -185,7 +161,7 @@ module _ (limits : Limits) (base newest : Content) (before planned now : List Tr
       plan = plan_of (RemoveLine id)
 
       line : (line : Line) × (finmap.get base.table.lines id.0 ≡ Some line)
-      line = there-line base limits id l.lawful
+      line = l.able
 
       st : standing.Standing (base_net plan) (planned_net plan) (newest_net plan) (after_net plan)
       st = stands-by plan m s refl (hull_law (base_net plan) m.before.sheet m.before.local) (hull_law (planned_net plan) m.planned.sheet m.planned.local)
@@ -196,7 +172,7 @@ module _ (limits : Limits) (base newest : Content) (before planned now : List Tr
           (on_at base l.planar line.0 (in_map (λ e. e.1) (numbered base.table) (id.0, line.0) (entry_of_get nat_cmp_total finmap.nat_cmp-IsAntisymmetric base.table.lines id.0 line.0 line.1)))
           (both-even (count (after newest (RemoveLine id)))) refl refl (line-less base id line.0 line.1) (line-less newest id line.0 (l.same_line id refl ∙ line.1))
 
-  add-point : (p : Coords) (z : ℤ) → HasMeshes (plan_of (AddPoint p z)) → IsLawfulTwice limits (plan_of (AddPoint p z)) → Stands (plan_of (AddPoint p z)) → IsRight (plan_of (AddPoint p z))
+  add-point : (p : Coords) (z : ℤ) → HasMeshes (plan_of (AddPoint p z)) → Apt (plan_of (AddPoint p z)) → Stands (plan_of (AddPoint p z)) → IsRight (plan_of (AddPoint p z))
   unfolding after
   add-point p z m l s = right-by plan m s st counted
     where
@@ -204,10 +180,10 @@ module _ (limits : Limits) (base newest : Content) (before planned now : List Tr
       plan = plan_of (AddPoint p z)
 
       more : IsLess (finmap.keys (finmap.insert base.points p z)) (points_of base) p
-      more = record { without = added-points base.points p z (free-place base limits p z l.lawful); at_c = added-it base.points p z }
+      more = record { without = added-points base.points p z l.able; at_c = added-it base.points p z }
 
       more_now : IsLess (finmap.keys (finmap.insert newest.points p z)) (points_of newest) p
-      more_now = record { without = added-points newest.points p z (free-place newest limits p z l.lawful_now); at_c = added-it newest.points p z }
+      more_now = record { without = added-points newest.points p z l.able_now; at_c = added-it newest.points p z }
 
       place : IsPlace p
       place = each_at IsPlace (finmap.keys (finmap.insert base.points p z)) p m.planned.sheet.places (in_points (finmap.keys (finmap.insert base.points p z)) p more.at_c)
@@ -218,7 +194,7 @@ module _ (limits : Limits) (base newest : Content) (before planned now : List Tr
           let new = in-among (made base (AddPoint p z)) g.facet (made-in plan m s g.facet (facet-among (planned_net plan) g.index g.triangle g.facet g.at g.is) g.none) in
           at-its-corner (planned_net plan) (base_net plan) m.planned.sheet p x y w g
           (and_parts (is_among (tri (after base (AddPoint p z))) g.facet) (is_corner_of p g.facet)
-          (sym (point_law.added base p z (joined-of base before m.before l.planar) place (free-place base limits p z l.lawful) g.facet) ∙ new)).1
+          (sym (point_law.added base p z (joined-of base before m.before l.planar) place l.able g.facet) ∙ new)).1
 
       has_more : HasPointMore (planned_net plan) (base_net plan) p
       has_more = record { points = more.without; at_c = more.at_c; corner = corner }
@@ -230,13 +206,13 @@ module _ (limits : Limits) (base newest : Content) (before planned now : List Tr
       st = stands-by plan m s refl encloses.1 encloses.0
           (carried-more (base_net plan) (planned_net plan) (newest_net plan) (after_net plan) p more more_now
           (star_law.made (planned_net plan) (base_net plan) p m.planned.sheet m.planned.local m.before.sheet m.before.local has_more (inner-planned plan m s) (inr (some-gone plan m s refl))))
-          (added-places newest.points p z (free-place newest limits p z l.lawful_now) m.now.sheet.places place)
+          (added-places newest.points p z l.able_now m.now.sheet.places place)
 
       counted : standing.Counted (base_net plan) (planned_net plan) (newest_net plan) (after_net plan) st
       counted = point-added (points_of base) (finmap.keys (finmap.insert base.points p z)) (points_of newest) (finmap.keys (finmap.insert newest.points p z)) (lines_of base) (lines_of newest) before planned now (renewed plan) p st
           (on_at base l.planar) (on_at newest l.planar_now) more more_now
 
-  remove-point : (p : Coords) → HasMeshes (plan_of (RemovePoint p)) → IsLawfulTwice limits (plan_of (RemovePoint p)) → Stands (plan_of (RemovePoint p)) → IsRight (plan_of (RemovePoint p))
+  remove-point : (p : Coords) → HasMeshes (plan_of (RemovePoint p)) → Apt (plan_of (RemovePoint p)) → Stands (plan_of (RemovePoint p)) → IsRight (plan_of (RemovePoint p))
   unfolding after
   remove-point p m l s = right-by plan m s st counted
     where
@@ -244,17 +220,17 @@ module _ (limits : Limits) (base newest : Content) (before planned now : List Tr
       plan = plan_of (RemovePoint p)
 
       less : IsLess (points_of base) (finmap.keys (finmap.remove base.points p)) p
-      less = record { without = removed-points base.points p; at_c = there-place base limits p l.lawful }
+      less = record { without = removed-points base.points p; at_c = l.able.0 }
 
       less_now : IsLess (points_of newest) (finmap.keys (finmap.remove newest.points p)) p
-      less_now = record { without = removed-points newest.points p; at_c = there-place newest limits p l.lawful_now }
+      less_now = record { without = removed-points newest.points p; at_c = l.able_now.0 }
 
       corner : (x y w : Corner) → is_in (gone (base_net plan) (planned_net plan)) x y w ≡ true → (At p ≡ x) ⊎ ((At p ≡ y) ⊎ (At p ≡ w))
       corner x y w e =
           let g = gone-of (base_net plan) (planned_net plan) x y w e in
           let old = in-among (destroyed base (RemovePoint p)) g.facet (destroyed-in plan m s g.facet (facet-among (base_net plan) g.index g.triangle g.facet g.at g.is) g.none) in
           at-its-corner (base_net plan) (planned_net plan) m.before.sheet p x y w g
-          (and_parts (is_among (tri base) g.facet) (is_corner_of p g.facet) (sym (point_law.removed base p (joined-of base before m.before l.planar) less.at_c (unused-place base limits p l.lawful) g.facet) ∙ old)).1
+          (and_parts (is_among (tri base) g.facet) (is_corner_of p g.facet) (sym (point_law.removed base p (joined-of base before m.before l.planar) less.at_c l.able.1 g.facet) ∙ old)).1
 
       has_more : HasPointMore (base_net plan) (planned_net plan) p
       has_more = record { points = less.without; at_c = less.at_c; corner = corner }
@@ -265,8 +241,8 @@ module _ (limits : Limits) (base newest : Content) (before planned now : List Tr
       taken : (y w : Corner) → has (newest_net plan) (At p) y w ≡ true → is_in (gone (base_net plan) (planned_net plan)) (At p) y w ≡ true
       taken = star_law.taken (base_net plan) (planned_net plan) (newest_net plan) p m.before.sheet m.before.local m.planned.sheet m.planned.local m.now.sheet has_more (inner-base plan m s) (inl (some-gone plan m s refl)) (unchanged plan m s refl)
 
-      on-still : (c : Content) → IsPlanar c → edit_refusal c limits (RemovePoint p) ≡ None → (line : Line) → In line (lines_of c) → is_on_points (finmap.keys (finmap.remove c.points p)) line ≡ true
-      on-still c planar e line i = still_on c.points p line (on_at c planar line i) (each_at (λ line. has_place p line ≡ false) (lines_of c) line (unused-place c limits p e) i)
+      on-still : (c : Content) → IsPlanar c → All (λ line. has_place p line ≡ false) (lines_of c) → (line : Line) → In line (lines_of c) → is_on_points (finmap.keys (finmap.remove c.points p)) line ≡ true
+      on-still c planar e line i = still_on c.points p line (on_at c planar line i) (each_at (λ line. has_place p line ≡ false) (lines_of c) line e i)
 
       st : standing.Standing (base_net plan) (planned_net plan) (newest_net plan) (after_net plan)
       st = stands-by plan m s refl encloses.0 encloses.1 (carried-less (base_net plan) (planned_net plan) (newest_net plan) (after_net plan) p less less_now taken)
@@ -274,7 +250,7 @@ module _ (limits : Limits) (base newest : Content) (before planned now : List Tr
 
       counted : standing.Counted (base_net plan) (planned_net plan) (newest_net plan) (after_net plan) st
       counted = point-taken (points_of base) (finmap.keys (finmap.remove base.points p)) (points_of newest) (finmap.keys (finmap.remove newest.points p)) (lines_of base) (lines_of newest) before planned now (renewed plan) p st
-          (on-still base l.planar l.lawful) (on-still newest l.planar_now l.lawful_now) less less_now taken
+          (on-still base l.planar l.able.1) (on-still newest l.planar_now l.able_now.1) less less_now taken
 
   -- a level that is set has no facet in its zone
   set-level : (p : Coords) (z : ℤ) → Stands (plan_of (SetLevel p z)) → ⊥
@@ -284,12 +260,16 @@ module _ (limits : Limits) (base newest : Content) (before planned now : List Tr
       by : (true || list_any (is_on_hull (tri base)) (destroyed base (SetLevel p z)) || list_any (is_on_hull (tri (after base (SetLevel p z)))) (made base (SetLevel p z))) ≡ false → ⊥
       by e = cc
 
-  by-kind : (edit : Edit) → HasMeshes (plan_of edit) → IsLawfulTwice limits (plan_of edit) → Stands (plan_of edit) → IsRight (plan_of edit)
+  by-kind : (edit : Edit) → HasMeshes (plan_of edit) → Apt (plan_of edit) → Stands (plan_of edit) → IsRight (plan_of edit)
   by-kind (AddPoint p z) m l s = add-point p z m l s
   by-kind (RemovePoint p) m l s = remove-point p m l s
   by-kind (SetLevel p z) m l s = absurd (set-level p z s)
   by-kind (AddLine kind places) m l s = add-line kind places m l s
   by-kind (RemoveLine id) m l s = remove-line id m l s
 
+pub right-where-apt : (plan : Plan) → HasMeshes plan → Apt plan → Stands plan → IsRight plan
+right-where-apt plan m l s = by-kind plan.base plan.newest plan.before plan.planned plan.now plan.edit m l s
+
 pub plan_law : PlanLaw
-plan_law limits plan m l s = by-kind limits plan.base plan.newest plan.before plan.planned plan.now plan.edit m l s
+plan_law limits plan m l s =
+    right-where-apt plan m (record { planar = l.planar; planar_now = l.planar_now; able = able-of plan.base limits plan.edit l.lawful; able_now = able-of plan.newest limits plan.edit l.lawful_now; same_line = l.same_line }) s
