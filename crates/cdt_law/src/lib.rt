@@ -12,7 +12,9 @@ ghost use Rattle.cdt_law.specs.Order.{OrderLaw};
 ghost use Rattle.cdt_law.specs.Patch.{PatchLaw};
 ghost use Rattle.cdt_law.specs.Pieces.{PieceLaw};
 ghost use Rattle.cdt_law.specs.Point.{PointLaw};
+ghost use Rattle.cdt_law.specs.Plans.{PlanLaw};
 ghost use Rattle.cdt_law.specs.Stale.{ZoneLaw};
+ghost use Rattle.cdt_law.specs.StalePlan.{StaleLaw};
 ghost use Rattle.cdt_law.specs.Star.{StarLaw};
 ghost use Rattle.cdt_law.specs.Vertices.{VertexLaw};
 ghost use Rattle.cdt_law.specs.Laws.{EdgeLaw, FacetLaw, FirstLaw, LocalLaw, NetLaw, OnceLaw, UniqueLaw};
@@ -153,4 +155,17 @@ pub fn count_law()
 /// A piece of the newest net that the edit leaves in its planned net is an edge of what the edit makes of the newest.
 pub fn piece_law()
     ensures { PieceLaw }
+{}
+
+/// A plan that is no hull plan is right at a newer content which still has each facet and point of its zone: the newest mesh
+/// with what the edit makes at the base, in the place of what it destroys there, is the mesh of the newest content after the
+/// edit. So the facets are the newest ones without those destroyed and with those made.
+pub fn plan_law()
+    ensures { PlanLaw }
+{}
+
+/// Why a stale plan is right: a plan made at the base of a legal history, which is no hull plan, and of which no facet or
+/// point has changed since, is right at the history's front, where its edit is lawful there.
+pub fn stale_law()
+    ensures { StaleLaw }
 {}
