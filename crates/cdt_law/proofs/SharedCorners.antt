@@ -89,7 +89,7 @@ near-side a b p y z k less h = by_lt_z (side a b p) (pos 0)
     under : (l m n g : ℤ) → l ≡ m +ℤ g → m ≡ n → n <ℤ neg_ℤ g → pos 0 ≤ℤ l → ⊥
     under l m n g e f h k = omega (arith, ints, e, f, h, k)
 
-module _ (base planned : Net) (sheet : IsSheet base) (sheet' : IsSheet planned) (out : Encloses base planned) (p : Coords) (at_p : is_point base.points p ≡ true) (m : IsCornerOfGone planned base p) where
+module _ (base planned : Net) (sheet : IsSheet base) (sheet' : IsSheet planned) (out : Encloses base planned) (p : Coords) (m : IsCornerOfGone planned base p) where
   g : Gone planned base (At p) m.y m.z
   g = gone-of planned base (At p) m.y m.z m.there
 
@@ -133,12 +133,26 @@ module _ (base planned : Net) (sheet : IsSheet base) (sheet' : IsSheet planned) 
   lost = overlap-gone base planned sheet sheet' out (At p) m.y m.z g held.index s held.at shared.point shared.some
       (record { ab = shared.second.ab; bc = shared.second.bc; ca = shared.second.ca }) (turn-inside g.triangle (At p) m.y m.z shared.point g.turn shared.first)
 
-  -- p is a corner of the base's triangle there
-  corner : (At p ≡ s.a) ⊎ ((At p ≡ s.b) ⊎ (At p ≡ s.c))
-  corner = sheet-only base sheet held.index s s.a s.b s.c held.at Still p at_p
-      (near-side (corner_at s.a) (corner_at s.b) p y z enough (less_a _ _ _ _ _ small) held.within.ab)
-      (near-side (corner_at s.b) (corner_at s.c) p y z enough (less_b _ _ _ _ _ small) held.within.bc)
-      (near-side (corner_at s.c) (corner_at s.a) p y z enough (less_c _ _ _ _ _ small) held.within.ca)
+  -- a destroyed triangle of the base covers p
+  pub record Covered : Type 0 where
+    pub index : ℕ
+    pub triangle : Triangle
+    pub at : slice_get base.triangles index ≡ Some triangle
+    pub gone : is_in (gone base planned) triangle.a triangle.b triangle.c ≡ true
+    pub ab : pos 0 ≤ℤ side (corner_at triangle.a) (corner_at triangle.b) p
+    pub bc : pos 0 ≤ℤ side (corner_at triangle.b) (corner_at triangle.c) p
+    pub ca : pos 0 ≤ℤ side (corner_at triangle.c) (corner_at triangle.a) p
+
+  pub covered-by : Covered
+  covered-by = record {
+    index = held.index;
+    triangle = s;
+    at = held.at;
+    gone = lost;
+    ab = near-side (corner_at s.a) (corner_at s.b) p y z enough (less_a _ _ _ _ _ small) held.within.ab;
+    bc = near-side (corner_at s.b) (corner_at s.c) p y z enough (less_b _ _ _ _ _ small) held.within.bc;
+    ca = near-side (corner_at s.c) (corner_at s.a) p y z enough (less_c _ _ _ _ _ small) held.within.ca;
+  }
     where
       small : size (both y z) s ≤ bound (both y z) base.triangles
       small = bounded (both y z) base.triangles held.index s held.at
@@ -152,16 +166,20 @@ module _ (base planned : Net) (sheet : IsSheet base) (sheet' : IsSheet planned) 
       less_c : (a b c n r : ℕ) → a + b + c ≤ r → c < 1 + n + r
       less_c a b c n r h = omega (arith, h)
 
-  of-gone : IsCornerOfGone base planned p
-  of-gone = by corner
-    where
-      begins : (u v w : Corner) → IsTurn s u v w → At p ≡ u → IsCornerOfGone base planned p
-      begins u v w turn e = record { y = v; z = w; there = subst (λ k. is_in (gone base planned) k v w ≡ true) (sym e) (in-turned (gone base planned) s s.a s.b s.c u v w Still turn lost) }
+module _ (base planned : Net) (sheet : IsSheet base) (sheet' : IsSheet planned) (out : Encloses base planned) (p : Coords) (at_p : is_point base.points p ≡ true) (m : IsCornerOfGone planned base p) where
+  c : Covered base planned sheet sheet' out p m
+  c = covered-by base planned sheet sheet' out p m
 
-      by : (At p ≡ s.a) ⊎ ((At p ≡ s.b) ⊎ (At p ≡ s.c)) → IsCornerOfGone base planned p
-      by (inl e) = begins s.a s.b s.c Still e
-      by (inr (inl e)) = begins s.b s.c s.a Once e
-      by (inr (inr e)) = begins s.c s.a s.b Twice e
+  of-gone : IsCornerOfGone base planned p
+  of-gone = by (sheet-only base sheet c.index c.triangle c.triangle.a c.triangle.b c.triangle.c c.at Still p at_p c.ab c.bc c.ca)
+    where
+      begins : (u v w : Corner) → IsTurn c.triangle u v w → At p ≡ u → IsCornerOfGone base planned p
+      begins u v w turn e = record { y = v; z = w; there = subst (λ k. is_in (gone base planned) k v w ≡ true) (sym e) (in-turned (gone base planned) c.triangle c.triangle.a c.triangle.b c.triangle.c u v w Still turn c.gone) }
+
+      by : (At p ≡ c.triangle.a) ⊎ ((At p ≡ c.triangle.b) ⊎ (At p ≡ c.triangle.c)) → IsCornerOfGone base planned p
+      by (inl e) = begins c.triangle.a c.triangle.b c.triangle.c Still e
+      by (inr (inl e)) = begins c.triangle.b c.triangle.c c.triangle.a Once e
+      by (inr (inr e)) = begins c.triangle.c c.triangle.a c.triangle.b Twice e
 
 pub corner_law : CornerLaw
 corner_law base planned sheet sheet' out p at_p m = of-gone base planned sheet sheet' out p at_p m
