@@ -35,6 +35,7 @@ use Rattle.cdt_law.specs.Hull.{Encloses}
 use Rattle.cdt_law.specs.Boundary.{gone}
 use Rattle.cdt_law.specs.Point.{IsJoined, is_corner_of}
 use Rattle.cdt_law.specs.Enclose.{HasPointMore}
+use Rattle.cdt_law.specs.Corners.{IsCornerOfGone}
 use Rattle.cdt_law.specs.Vertices.{AreCarried}
 use Rattle.cdt_law.specs.Plans.{Plan, HasMeshes, IsLawfulTwice, Stands, IsMesh, IsRight, PlanLaw, base_net, planned_net, newest_net, renewed, is_carried, is_on_hull, is_hull_plan}
 use Rattle.cdt_law.proofs.FacetLaws.{facet_law}
@@ -55,7 +56,7 @@ use Rattle.cdt_law.proofs.PlanZone.{among-in, in-among, facets-newest, destroyed
 use Rattle.cdt_law.proofs.PlanPoints.{carried-same, carried-more, carried-less, at-its-corner}
 
 -- the newest content after the edit, with the patched mesh
-abbrev after_net : Plan → Net
+abbrev pub after_net : Plan → Net
 after_net plan = net_over (after plan.newest plan.edit) (renewed plan)
 
 -- ---- where the points and the counts are right, the plan is
@@ -135,42 +136,73 @@ joined-of c triangles m planar = record { places = m.sheet.places; on_points = p
 
 -- ---- kind of edit by kind
 module _ (base newest : Content) (before planned now : List Triangle) where
-  abbrev plan_of : Edit → Plan
+  abbrev pub plan_of : Edit → Plan
   plan_of edit = record { edit = edit; base = base; before = before; planned = planned; newest = newest; now = now }
+
+  -- ---- a line, which leaves the points as they are
+  pub line-stands : (kind : LineKind) (places : List Coords) → HasMeshes (plan_of (AddLine kind places)) → Stands (plan_of (AddLine kind places))
+      → standing.Standing (base_net (plan_of (AddLine kind places))) (planned_net (plan_of (AddLine kind places))) (newest_net (plan_of (AddLine kind places))) (after_net (plan_of (AddLine kind places)))
+  unfolding after
+  line-stands kind places m s =
+      let plan : Plan = plan_of (AddLine kind places) in
+      stands-by plan m s refl (hull_law (base_net plan) m.before.sheet m.before.local) (hull_law (planned_net plan) m.planned.sheet m.planned.local)
+      (carried-same (base_net plan) (planned_net plan) (newest_net plan) (after_net plan) refl refl) m.now.sheet.places
+
+  pub taken-line-stands : (id : LineId) → HasMeshes (plan_of (RemoveLine id)) → Stands (plan_of (RemoveLine id))
+      → standing.Standing (base_net (plan_of (RemoveLine id))) (planned_net (plan_of (RemoveLine id))) (newest_net (plan_of (RemoveLine id))) (after_net (plan_of (RemoveLine id)))
+  unfolding after
+  taken-line-stands id m s =
+      let plan : Plan = plan_of (RemoveLine id) in
+      stands-by plan m s refl (hull_law (base_net plan) m.before.sheet m.before.local) (hull_law (planned_net plan) m.planned.sheet m.planned.local)
+      (carried-same (base_net plan) (planned_net plan) (newest_net plan) (after_net plan) refl refl) m.now.sheet.places
 
   add-line : (kind : LineKind) (places : List Coords) → HasMeshes (plan_of (AddLine kind places)) → Apt (plan_of (AddLine kind places)) → Stands (plan_of (AddLine kind places)) → IsRight (plan_of (AddLine kind places))
   unfolding after
-  add-line kind places m l s = right-by plan m s st counted
-    where
-      plan : Plan
-      plan = plan_of (AddLine kind places)
-
-      st : standing.Standing (base_net plan) (planned_net plan) (newest_net plan) (after_net plan)
-      st = stands-by plan m s refl (hull_law (base_net plan) m.before.sheet m.before.local) (hull_law (planned_net plan) m.planned.sheet m.planned.local)
-          (carried-same (base_net plan) (planned_net plan) (newest_net plan) (after_net plan) refl refl) m.now.sheet.places
-
-      counted : standing.Counted (base_net plan) (planned_net plan) (newest_net plan) (after_net plan) st
-      counted = line-added (base_net plan) (planned_net plan) (newest_net plan) (after_net plan) st (record { kind = kind; places = places }) l.able
-          (both-even (count (after newest (AddLine kind places)))) refl refl (line-more base kind places l.planar) (line-more newest kind places l.planar_now)
+  add-line kind places m l s =
+      let plan : Plan = plan_of (AddLine kind places) in
+      right-by plan m s (line-stands kind places m s)
+      (line-added (base_net plan) (planned_net plan) (newest_net plan) (after_net plan) (line-stands kind places m s) (record { kind = kind; places = places }) l.able
+      (both-even (count (after newest (AddLine kind places)))) refl refl (line-more base kind places l.planar) (line-more newest kind places l.planar_now))
 
   remove-line : (id : LineId) → HasMeshes (plan_of (RemoveLine id)) → Apt (plan_of (RemoveLine id)) → Stands (plan_of (RemoveLine id)) → IsRight (plan_of (RemoveLine id))
   unfolding after
-  remove-line id m l s = right-by plan m s st counted
-    where
-      plan : Plan
-      plan = plan_of (RemoveLine id)
+  remove-line id m l s =
+      let plan : Plan = plan_of (RemoveLine id) in
+      right-by plan m s (taken-line-stands id m s)
+      (line-taken (base_net plan) (planned_net plan) (newest_net plan) (after_net plan) (taken-line-stands id m s) l.able.0
+      (on_at base l.planar l.able.0 (in_map (λ e. e.1) (numbered base.table) (id.0, l.able.0) (entry_of_get nat_cmp_total finmap.nat_cmp-IsAntisymmetric base.table.lines id.0 l.able.0 l.able.1)))
+      (both-even (count (after newest (RemoveLine id)))) refl refl (line-less base id l.able.0 l.able.1) (line-less newest id l.able.0 (l.same_line id refl ∙ l.able.1)))
 
-      line : (line : Line) × (finmap.get base.table.lines id.0 ≡ Some line)
-      line = l.able
+  -- ---- a point that is added
+  module _ (p : Coords) (z : ℤ) (m : HasMeshes (plan_of (AddPoint p z))) (planar : IsPlanar base) (able : Able base (AddPoint p z)) (s : Stands (plan_of (AddPoint p z))) where
+    more : IsLess (finmap.keys (finmap.insert base.points p z)) (points_of base) p
+    more = record { without = added-points base.points p z able; at_c = added-it base.points p z }
 
-      st : standing.Standing (base_net plan) (planned_net plan) (newest_net plan) (after_net plan)
-      st = stands-by plan m s refl (hull_law (base_net plan) m.before.sheet m.before.local) (hull_law (planned_net plan) m.planned.sheet m.planned.local)
-          (carried-same (base_net plan) (planned_net plan) (newest_net plan) (after_net plan) refl refl) m.now.sheet.places
+    place : IsPlace p
+    unfolding after
+    place = each_at IsPlace (finmap.keys (finmap.insert base.points p z)) p m.planned.sheet.places (in_points (finmap.keys (finmap.insert base.points p z)) p more.at_c)
 
-      counted : standing.Counted (base_net plan) (planned_net plan) (newest_net plan) (after_net plan) st
-      counted = line-taken (base_net plan) (planned_net plan) (newest_net plan) (after_net plan) st line.0
-          (on_at base l.planar line.0 (in_map (λ e. e.1) (numbered base.table) (id.0, line.0) (entry_of_get nat_cmp_total finmap.nat_cmp-IsAntisymmetric base.table.lines id.0 line.0 line.1)))
-          (both-even (count (after newest (RemoveLine id)))) refl refl (line-less base id line.0 line.1) (line-less newest id line.0 (l.same_line id refl ∙ line.1))
+    corner : (x y w : Corner) → is_in (gone (planned_net (plan_of (AddPoint p z))) (base_net (plan_of (AddPoint p z)))) x y w ≡ true → (At p ≡ x) ⊎ ((At p ≡ y) ⊎ (At p ≡ w))
+    corner x y w e =
+        let plan : Plan = plan_of (AddPoint p z) in
+        let g = gone-of (planned_net plan) (base_net plan) x y w e in
+        let new = in-among (made base (AddPoint p z)) g.facet (made-in plan m s g.facet (facet-among (planned_net plan) g.index g.triangle g.facet g.at g.is) g.none) in
+        at-its-corner (planned_net plan) (base_net plan) m.planned.sheet p x y w g
+        (and_parts (is_among (tri (after base (AddPoint p z))) g.facet) (is_corner_of p g.facet) (sym (point_law.added base p z (joined-of base before m.before planar) place able g.facet) ∙ new)).1
+
+    has_more : HasPointMore (planned_net (plan_of (AddPoint p z))) (base_net (plan_of (AddPoint p z))) p
+    unfolding after
+    has_more = record { points = more.without; at_c = more.at_c; corner = corner }
+
+    pub added-encloses : Encloses (planned_net (plan_of (AddPoint p z))) (base_net (plan_of (AddPoint p z))) × Encloses (base_net (plan_of (AddPoint p z))) (planned_net (plan_of (AddPoint p z)))
+    added-encloses =
+        let plan : Plan = plan_of (AddPoint p z) in
+        enclose_law (planned_net plan) (base_net plan) p m.planned.sheet m.planned.local m.before.sheet m.before.local has_more (inner-planned plan m s) (inr (some-gone plan m s refl))
+
+    pub made-at-it : IsCornerOfGone (planned_net (plan_of (AddPoint p z))) (base_net (plan_of (AddPoint p z))) p
+    made-at-it =
+        let plan : Plan = plan_of (AddPoint p z) in
+        star_law.made (planned_net plan) (base_net plan) p m.planned.sheet m.planned.local m.before.sheet m.before.local has_more (inner-planned plan m s) (inr (some-gone plan m s refl))
 
   add-point : (p : Coords) (z : ℤ) → HasMeshes (plan_of (AddPoint p z)) → Apt (plan_of (AddPoint p z)) → Stands (plan_of (AddPoint p z)) → IsRight (plan_of (AddPoint p z))
   unfolding after
@@ -179,38 +211,49 @@ module _ (base newest : Content) (before planned now : List Triangle) where
       plan : Plan
       plan = plan_of (AddPoint p z)
 
-      more : IsLess (finmap.keys (finmap.insert base.points p z)) (points_of base) p
-      more = record { without = added-points base.points p z l.able; at_c = added-it base.points p z }
-
       more_now : IsLess (finmap.keys (finmap.insert newest.points p z)) (points_of newest) p
       more_now = record { without = added-points newest.points p z l.able_now; at_c = added-it newest.points p z }
 
-      place : IsPlace p
-      place = each_at IsPlace (finmap.keys (finmap.insert base.points p z)) p m.planned.sheet.places (in_points (finmap.keys (finmap.insert base.points p z)) p more.at_c)
-
-      corner : (x y w : Corner) → is_in (gone (planned_net plan) (base_net plan)) x y w ≡ true → (At p ≡ x) ⊎ ((At p ≡ y) ⊎ (At p ≡ w))
-      corner x y w e =
-          let g = gone-of (planned_net plan) (base_net plan) x y w e in
-          let new = in-among (made base (AddPoint p z)) g.facet (made-in plan m s g.facet (facet-among (planned_net plan) g.index g.triangle g.facet g.at g.is) g.none) in
-          at-its-corner (planned_net plan) (base_net plan) m.planned.sheet p x y w g
-          (and_parts (is_among (tri (after base (AddPoint p z))) g.facet) (is_corner_of p g.facet)
-          (sym (point_law.added base p z (joined-of base before m.before l.planar) place l.able g.facet) ∙ new)).1
-
-      has_more : HasPointMore (planned_net plan) (base_net plan) p
-      has_more = record { points = more.without; at_c = more.at_c; corner = corner }
-
-      encloses : Encloses (planned_net plan) (base_net plan) × Encloses (base_net plan) (planned_net plan)
-      encloses = enclose_law (planned_net plan) (base_net plan) p m.planned.sheet m.planned.local m.before.sheet m.before.local has_more (inner-planned plan m s) (inr (some-gone plan m s refl))
-
       st : standing.Standing (base_net plan) (planned_net plan) (newest_net plan) (after_net plan)
-      st = stands-by plan m s refl encloses.1 encloses.0
-          (carried-more (base_net plan) (planned_net plan) (newest_net plan) (after_net plan) p more more_now
-          (star_law.made (planned_net plan) (base_net plan) p m.planned.sheet m.planned.local m.before.sheet m.before.local has_more (inner-planned plan m s) (inr (some-gone plan m s refl))))
-          (added-places newest.points p z l.able_now m.now.sheet.places place)
+      st = stands-by plan m s refl (added-encloses p z m l.planar l.able s).1 (added-encloses p z m l.planar l.able s).0
+          (carried-more (base_net plan) (planned_net plan) (newest_net plan) (after_net plan) p (more p z m l.planar l.able s) more_now (made-at-it p z m l.planar l.able s))
+          (added-places newest.points p z l.able_now m.now.sheet.places (place p z m l.planar l.able s))
 
       counted : standing.Counted (base_net plan) (planned_net plan) (newest_net plan) (after_net plan) st
       counted = point-added (points_of base) (finmap.keys (finmap.insert base.points p z)) (points_of newest) (finmap.keys (finmap.insert newest.points p z)) (lines_of base) (lines_of newest) before planned now (renewed plan) p st
-          (on_at base l.planar) (on_at newest l.planar_now) more more_now
+          (on_at base l.planar) (on_at newest l.planar_now) (more p z m l.planar l.able s) more_now
+
+  -- ---- a point that is taken
+  module _ (p : Coords) (m : HasMeshes (plan_of (RemovePoint p))) (planar : IsPlanar base) (able : Able base (RemovePoint p)) (s : Stands (plan_of (RemovePoint p))) where
+    less : IsLess (points_of base) (finmap.keys (finmap.remove base.points p)) p
+    less = record { without = removed-points base.points p; at_c = able.0 }
+
+    its-corner : (x y w : Corner) → is_in (gone (base_net (plan_of (RemovePoint p))) (planned_net (plan_of (RemovePoint p)))) x y w ≡ true → (At p ≡ x) ⊎ ((At p ≡ y) ⊎ (At p ≡ w))
+    its-corner x y w e =
+        let plan : Plan = plan_of (RemovePoint p) in
+        let g = gone-of (base_net plan) (planned_net plan) x y w e in
+        let old = in-among (destroyed base (RemovePoint p)) g.facet (destroyed-in plan m s g.facet (facet-among (base_net plan) g.index g.triangle g.facet g.at g.is) g.none) in
+        at-its-corner (base_net plan) (planned_net plan) m.before.sheet p x y w g
+        (and_parts (is_among (tri base) g.facet) (is_corner_of p g.facet) (sym (point_law.removed base p (joined-of base before m.before planar) able.0 able.1 g.facet) ∙ old)).1
+
+    had_more : HasPointMore (base_net (plan_of (RemovePoint p))) (planned_net (plan_of (RemovePoint p))) p
+    unfolding after
+    had_more = record { points = less.without; at_c = less.at_c; corner = its-corner }
+
+    taken-encloses : Encloses (base_net (plan_of (RemovePoint p))) (planned_net (plan_of (RemovePoint p))) × Encloses (planned_net (plan_of (RemovePoint p))) (base_net (plan_of (RemovePoint p)))
+    taken-encloses =
+        let plan : Plan = plan_of (RemovePoint p) in
+        enclose_law (base_net plan) (planned_net plan) p m.before.sheet m.before.local m.planned.sheet m.planned.local had_more (inner-base plan m s) (inl (some-gone plan m s refl))
+
+    pub destroyed-at-it : IsCornerOfGone (base_net (plan_of (RemovePoint p))) (planned_net (plan_of (RemovePoint p))) p
+    destroyed-at-it =
+        let plan : Plan = plan_of (RemovePoint p) in
+        star_law.made (base_net plan) (planned_net plan) p m.before.sheet m.before.local m.planned.sheet m.planned.local had_more (inner-base plan m s) (inl (some-gone plan m s refl))
+
+    pub all-destroyed : (y w : Corner) → has (newest_net (plan_of (RemovePoint p))) (At p) y w ≡ true → is_in (gone (base_net (plan_of (RemovePoint p))) (planned_net (plan_of (RemovePoint p)))) (At p) y w ≡ true
+    all-destroyed =
+        let plan : Plan = plan_of (RemovePoint p) in
+        star_law.taken (base_net plan) (planned_net plan) (newest_net plan) p m.before.sheet m.before.local m.planned.sheet m.planned.local m.now.sheet had_more (inner-base plan m s) (inl (some-gone plan m s refl)) (unchanged plan m s refl)
 
   remove-point : (p : Coords) → HasMeshes (plan_of (RemovePoint p)) → Apt (plan_of (RemovePoint p)) → Stands (plan_of (RemovePoint p)) → IsRight (plan_of (RemovePoint p))
   unfolding after
@@ -219,38 +262,20 @@ module _ (base newest : Content) (before planned now : List Triangle) where
       plan : Plan
       plan = plan_of (RemovePoint p)
 
-      less : IsLess (points_of base) (finmap.keys (finmap.remove base.points p)) p
-      less = record { without = removed-points base.points p; at_c = l.able.0 }
-
       less_now : IsLess (points_of newest) (finmap.keys (finmap.remove newest.points p)) p
       less_now = record { without = removed-points newest.points p; at_c = l.able_now.0 }
-
-      corner : (x y w : Corner) → is_in (gone (base_net plan) (planned_net plan)) x y w ≡ true → (At p ≡ x) ⊎ ((At p ≡ y) ⊎ (At p ≡ w))
-      corner x y w e =
-          let g = gone-of (base_net plan) (planned_net plan) x y w e in
-          let old = in-among (destroyed base (RemovePoint p)) g.facet (destroyed-in plan m s g.facet (facet-among (base_net plan) g.index g.triangle g.facet g.at g.is) g.none) in
-          at-its-corner (base_net plan) (planned_net plan) m.before.sheet p x y w g
-          (and_parts (is_among (tri base) g.facet) (is_corner_of p g.facet) (sym (point_law.removed base p (joined-of base before m.before l.planar) less.at_c l.able.1 g.facet) ∙ old)).1
-
-      has_more : HasPointMore (base_net plan) (planned_net plan) p
-      has_more = record { points = less.without; at_c = less.at_c; corner = corner }
-
-      encloses : Encloses (base_net plan) (planned_net plan) × Encloses (planned_net plan) (base_net plan)
-      encloses = enclose_law (base_net plan) (planned_net plan) p m.before.sheet m.before.local m.planned.sheet m.planned.local has_more (inner-base plan m s) (inl (some-gone plan m s refl))
-
-      taken : (y w : Corner) → has (newest_net plan) (At p) y w ≡ true → is_in (gone (base_net plan) (planned_net plan)) (At p) y w ≡ true
-      taken = star_law.taken (base_net plan) (planned_net plan) (newest_net plan) p m.before.sheet m.before.local m.planned.sheet m.planned.local m.now.sheet has_more (inner-base plan m s) (inl (some-gone plan m s refl)) (unchanged plan m s refl)
 
       on-still : (c : Content) → IsPlanar c → All (λ line. has_place p line ≡ false) (lines_of c) → (line : Line) → In line (lines_of c) → is_on_points (finmap.keys (finmap.remove c.points p)) line ≡ true
       on-still c planar e line i = still_on c.points p line (on_at c planar line i) (each_at (λ line. has_place p line ≡ false) (lines_of c) line e i)
 
       st : standing.Standing (base_net plan) (planned_net plan) (newest_net plan) (after_net plan)
-      st = stands-by plan m s refl encloses.0 encloses.1 (carried-less (base_net plan) (planned_net plan) (newest_net plan) (after_net plan) p less less_now taken)
+      st = stands-by plan m s refl (taken-encloses p m l.planar l.able s).0 (taken-encloses p m l.planar l.able s).1
+          (carried-less (base_net plan) (planned_net plan) (newest_net plan) (after_net plan) p (less p m l.planar l.able s) less_now (all-destroyed p m l.planar l.able s))
           (each_from IsPlace (finmap.keys (finmap.remove newest.points p)) (λ x i. each_at IsPlace (points_of newest) x m.now.sheet.places (in_points (points_of newest) x (still (points_of newest) (finmap.keys (finmap.remove newest.points p)) p less_now.without less_now.at_c x (is_point_in (finmap.keys (finmap.remove newest.points p)) x i)))))
 
       counted : standing.Counted (base_net plan) (planned_net plan) (newest_net plan) (after_net plan) st
       counted = point-taken (points_of base) (finmap.keys (finmap.remove base.points p)) (points_of newest) (finmap.keys (finmap.remove newest.points p)) (lines_of base) (lines_of newest) before planned now (renewed plan) p st
-          (on-still base l.planar l.able.1) (on-still newest l.planar_now l.able_now.1) less less_now taken
+          (on-still base l.planar l.able.1) (on-still newest l.planar_now l.able_now.1) (less p m l.planar l.able s) less_now (all-destroyed p m l.planar l.able s)
 
   -- a level that is set has no facet in its zone
   set-level : (p : Coords) (z : ℤ) → Stands (plan_of (SetLevel p z)) → ⊥
