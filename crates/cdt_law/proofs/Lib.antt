@@ -73,3 +73,5 @@ pub mod PlanPoints
 pub mod Able
 pub mod PlanLaw
 pub mod StalePlans
+-- limits
+pub mod LinkPieces
