@@ -75,3 +75,5 @@ pub mod PlanLaw
 pub mod StalePlans
 -- limits
 pub mod LinkPieces
+pub mod LimitCauses
+pub mod NoCrossings
