@@ -77,3 +77,4 @@ pub mod StalePlans
 pub mod LinkPieces
 pub mod LimitCauses
 pub mod NoCrossings
+pub mod StillAble

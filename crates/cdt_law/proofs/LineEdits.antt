@@ -14,9 +14,6 @@ use Rattle.cdt_law.proofs.LineTimes.{runs_on, AreNext, runs-same, runs-back, pie
 use Rattle.cdt_law.proofs.Standing.{Standing, OtherOn, Counted, next-on, bare, bare_sheet, made_alike, made-edge, other-edge, planned-edge, base-edge, newest-edge, parted, not-gone, not-made, made-on, destroyed-on}
 
 module _ (base planned newest after : Net) (s : Standing base planned newest after) (line : Line) (on : is_on_points base.points line ≡ true) (even : (p q : Coords) → after.count p q ≡ after.count q p) where
-  AreThere : Coords → Coords → Type 0
-  AreThere p q = (is_point newest.points p ≡ true) × ((is_point newest.points q ≡ true) × IsClear newest.points p q)
-
   -- ---- a line more
   module _ (same_points : planned.points ≡ base.points) (same_after : after.points ≡ newest.points)
       (more : (p q : Coords) → planned.count p q ≡ runs_on base.points line p q + base.count p q) (more_after : (p q : Coords) → after.count p q ≡ runs_on newest.points line p q + newest.count p q) where
@@ -35,7 +32,7 @@ module _ (base planned newest after : Net) (s : Standing base planned newest aft
     next-planned : (p q : Coords) → GoneOn planned base (At p) (At q) → AreNext base.points p q
     next-planned p q g = subst (λ ps. AreNext ps p q) same_points (next-on planned s.planned_sheet p q (planned-edge base planned newest after s (At p) (At q) g.third g.there))
 
-    pieces-there : (p q : Coords) → IsPiece base.points line p q → (is_point newest.points p ≡ true) × ((is_point newest.points q ≡ true) × IsClear newest.points p q)
+    pub pieces-there : (p q : Coords) → IsPiece base.points line p q → (is_point newest.points p ≡ true) × ((is_point newest.points q ≡ true) × IsClear newest.points p q)
     pieces-there p q h = let n = next-after p q (made-run p q (piece-runs base.points line p q h)) in (n.first, (n.last, n.clear))
 
     run-made : (p q : Coords) → 0 < runs_on newest.points line p q → GoneOn planned base (At p) (At q)

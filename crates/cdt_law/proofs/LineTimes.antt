@@ -6,6 +6,7 @@ use Rattle.ground_model.specs.Line.{Line, is_point, has_piece}
 use Rattle.ground_model.specs.Crossings.{is_on_points}
 use Rattle.ground_model.proofs.Elements.{both_true}
 use Rattle.ground_model.proofs.LinePieces.{IsPiece, piece_of, has_piece_from}
+use Rattle.ground_model.proofs.Segments.{not_after}
 use Rattle.cdt_law.proofs.PieceParts.{IsClear, piece-carried, piece-back}
 
 -- whether the line has the piece, as a number
@@ -63,6 +64,13 @@ piece-runs points line p q h = by (is_before p q) h.before
     by : (t : Bool) → t ≡ true → 0 < (if t then once_on points line p q else once_on points line q p)
     by true e = some-once points line p q h
     by false e = cc
+
+pub piece-runs-back : (points : List Coords) (line : Line) (p q : Coords) → IsPiece points line p q → 0 < runs_on points line q p
+piece-runs-back points line p q h = by (is_before q p) (not_after p q h.before)
+  where
+    by : (t : Bool) → t ≡ false → 0 < (if t then once_on points line q p else once_on points line p q)
+    by true e = cc
+    by false e = some-once points line p q h
 
 -- where the others have each piece of the line as it is, it runs over no edge of theirs but these
 pub runs-back : (points others : List Coords) (line : Line) → is_on_points points line ≡ true
