@@ -78,3 +78,4 @@ pub mod LinkPieces
 pub mod LimitCauses
 pub mod NoCrossings
 pub mod StillAble
+pub mod StillLines

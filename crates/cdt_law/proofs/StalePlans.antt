@@ -74,7 +74,7 @@ from-base h base P start next k le most = by (k - base) k le most (omega (arith,
         next k x.0 (omega (arith, e)) (omega (arith, most)) x.1 (by d k (omega (arith, e)) (omega (arith, most)) (omega (arith, e)))
 
 -- ---- a line's number is not given again
-not-next : (n m : ℕ) → n < m → eq_by_cmp nat_cmp n m ≡ false
+pub not-next : (n m : ℕ) → n < m → eq_by_cmp nat_cmp n m ≡ false
 not-next n m lt = by (eq_by_cmp nat_cmp n m) refl
   where
     equal : (r : Ordering) → nat_cmp n m ≡ r → is_eq r ≡ true → n ≡ m
@@ -118,7 +118,7 @@ module _ (limits : Limits) (h : List Entry) (legal : IsLegal limits h) (base n :
       each_at (λ entry. entry.0 < (content_of (take base h)).table.next) (finmap.entries (content_of (take base h)).table.lines) (n, line) (planar-taken limits h base legal).fresh
       (entry_of_get nat_cmp_total finmap.nat_cmp-IsAntisymmetric (content_of (take base h)).table.lines n line there)
 
-  still-old : (k : ℕ) → base ≤ k → k ≤ length h → n < (content_of (take k h)).table.next
+  pub still-old : (k : ℕ) → base ≤ k → k ≤ length h → n < (content_of (take k h)).table.next
   still-old = from-base h base (λ k. n < (content_of (take k h)).table.next) number-old (λ k x le lt at old. later k x at old)
     where
       later : (k : ℕ) (x : Entry) → slice_get h k ≡ Some x → n < (content_of (take k h)).table.next → n < (content_of (take (suc k) h)).table.next
