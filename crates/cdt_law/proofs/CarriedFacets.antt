@@ -6,17 +6,17 @@ use Rattle.ground_model.specs.declared.corner.Corner.TheVariants.{At}
 use Rattle.ground_model.specs.declared.facet.Facet.{Facet}
 use Rattle.ground_model.specs.Mark.{is_among}
 use Rattle.predicates.specs.Net.{Net, is_triangle, has, facet_on, facets_of}
-use Rattle.predicates.proofs.Owners.{IsTurn, turn-next}
+use Rattle.predicates.proofs.Owners.{turn-next}
 use Rattle.predicates.proofs.HasTriangles.{any-found, turn-of}
 use Rattle.cdt_law.specs.Patch.{is_in}
 use Rattle.cdt_law.specs.Boundary.{gone}
 use Rattle.cdt_law.specs.Stale.{without}
 use Rattle.cdt_law.proofs.SheetFacets.{facets-equal, turn-facet}
 use Rattle.cdt_law.proofs.Patched.{any-either, any-second}
-use Rattle.cdt_law.proofs.GoneFacets.{turn-in, facet-among, HasFacet, facet-there, gone-of, gone-in, GoneOn}
+use Rattle.cdt_law.proofs.GoneFacets.{turn-in, facet-among, gone-of, gone-in}
 use Rattle.cdt_law.proofs.Renewed.{Without, without-of, without-in}
 use Rattle.cdt_law.proofs.FacetEdges.{FacetIn, facet-in-net}
-use Rattle.cdt_law.proofs.Standing.{Standing, OtherOn, Counted, renewed}
+use Rattle.cdt_law.proofs.Standing.{Standing, Counted, renewed}
 
 -- a facet of one net is one of another that has its triangle and counts alike over its edges
 facet-moved : (net other : Net) (f : Facet) → FacetIn net f → has other (At f.a) (At f.b) (At f.c) ≡ true → net.count f.a f.b ≡ other.count f.a f.b → net.count f.b f.c ≡ other.count f.b f.c → net.count f.c f.a ≡ other.count f.c f.a
@@ -33,8 +33,7 @@ module _ (base planned newest after : Net) (s : Standing base planned newest aft
   made-on-each f e =
       let found = any-found (is_triangle (At f.a) (At f.b) (At f.c)) (gone planned base) e in
       let turn = turn-of (At f.a) (At f.b) (At f.c) found.item found.passes in
-      let second = turn-next found.item (At f.a) (At f.b) (At f.c) turn in
-      (
+      let second = turn-next found.item (At f.a) (At f.b) (At f.c) turn in (
         c.made f.a f.b (record { third = At f.c; there = e }),
         (
           c.made f.b f.c (record { third = At f.a; there = turn-in (gone planned base) found.index found.item (At f.b) (At f.c) (At f.a) found.at second }),
@@ -47,8 +46,7 @@ module _ (base planned newest after : Net) (s : Standing base planned newest aft
   stays-on-each f e =
       let found = any-found (is_triangle (At f.a) (At f.b) (At f.c)) (without newest (gone base planned)) e in
       let turn = turn-of (At f.a) (At f.b) (At f.c) found.item found.passes in
-      let second = turn-next found.item (At f.a) (At f.b) (At f.c) turn in
-      (
+      let second = turn-next found.item (At f.a) (At f.b) (At f.c) turn in (
         c.others f.a f.b (record { third = At f.c; there = e }),
         (
           c.others f.b f.c (record { third = At f.a; there = turn-in (without newest (gone base planned)) found.index found.item (At f.b) (At f.c) (At f.a) found.at second }),

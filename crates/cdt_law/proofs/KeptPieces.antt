@@ -1,5 +1,5 @@
 -- A piece of the newest net and of the planned one is an edge after the edit.
-use Rattle.std.proofs.Common.{◌≡◌, ℕ, ◌+◌, ◌<◌, inl, inr, ◌⊎◌, refl, sym, ap, subst, ◌∙◌, arith, ◌++◌, Bool, true, false, Some}
+use Rattle.std.proofs.Common.{◌≡◌, ℕ, ◌<◌, inl, inr, refl, sym, ap, subst, ◌∙◌, ◌++◌, Bool, true, false, Some}
 use Rattle.std.specs.Prelude.{pos, ◌<ℤ◌}
 use Rattle.std.proofs.lemmas.Bool.{both_ways as clash}
 use Rattle.ground_model.specs.declared.corner.Corner.{Corner}
@@ -16,13 +16,12 @@ use Rattle.predicates.proofs.Owners.{IsTurn, Owner, owner, turn-side, turn-next}
 use Rattle.predicates.proofs.HasTriangles.{owner-has}
 use Rattle.predicates.proofs.OneOwner.{one_on_edge}
 use Rattle.predicates.proofs.NoFourInPlane.{is_left-from}
-use Rattle.cdt_law.specs.Patch.{is_in, times_among}
+use Rattle.cdt_law.specs.Patch.{is_in}
 use Rattle.cdt_law.specs.Hull.{Encloses}
 use Rattle.cdt_law.specs.Boundary.{gone}
 use Rattle.cdt_law.specs.Stale.{without}
 use Rattle.cdt_law.specs.Pieces.{PieceLaw}
 use Rattle.cdt_law.proofs.GoodInSheet.{over-first}
-use Rattle.cdt_law.proofs.Patched.{among-append}
 use Rattle.cdt_law.proofs.GoneFacets.{among-some, turn-in, some-facet, Places, places-of, facet-among, facet-there, Gone, gone-of, gone-in}
 use Rattle.cdt_law.proofs.Renewed.{in-renewed, without-in}
 

@@ -79,3 +79,4 @@ pub mod LimitCauses
 pub mod NoCrossings
 pub mod StillAble
 pub mod StillLines
+pub mod Limits

@@ -12,7 +12,7 @@ use Rattle.ground_model.specs.declared.refusal.Refusal.{Refusal}
 use Rattle.ground_model.specs.declared.refusal.Refusal.TheVariants.{Occupied, Absent, Held, Joint, TooShort, Repeated, NotPoint, Crosses, SelfCross, NoLine, PointsFull, LinesFull, VerticesFull, LogFull}
 use Rattle.ground_model.specs.Place.{Coords, is_same}
 use Rattle.ground_model.specs.Kind.{is_ring, least_places}
-use Rattle.ground_model.specs.Line.{Line, Segment, links, has_place}
+use Rattle.ground_model.specs.Line.{Line, links, has_place}
 use Rattle.ground_model.specs.Table.{least_where, places_together}
 use Rattle.ground_model.specs.Crossings.{lines_cross, joint, self_cross}
 use Rattle.ground_model.specs.Content.{Content, after, points_of, level_of}
@@ -20,7 +20,7 @@ use Rattle.ground_model.specs.Refusal.{when, first_of, because, id, repeated, li
 use Rattle.cdt_law.specs.Limits.{is_limit}
 
 -- if there is a cause, it is a limit
-pub OnlyLimits : Option Refusal → Type 0
+unfoldable pub OnlyLimits : Option Refusal → Type 0
 OnlyLimits o = (cause : Refusal) → o ≡ Some cause → is_limit cause ≡ true
 
 only-none : (o : Option Refusal) → o ≡ None → OnlyLimits o

@@ -1,13 +1,12 @@
 -- A line that is added or taken: its pieces are those of the base, also at a newer net where its plan stands.
-use Rattle.std.proofs.Common.{◌≡◌, ℕ, zero, suc, ◌+◌, ◌<◌, ◌⊎◌, inl, inr, refl, sym, ap, subst, ◌∙◌, arith, Bool, true}
+use Rattle.std.proofs.Common.{◌≡◌, ℕ, zero, suc, ◌+◌, ◌<◌, ◌⊎◌, inl, inr, refl, sym, subst, ◌∙◌, arith, true}
 use Rattle.ground_model.specs.declared.corner.Corner.TheVariants.{At}
 use Rattle.ground_model.specs.Place.{Coords}
 use Rattle.ground_model.specs.Line.{Line, is_point}
 use Rattle.ground_model.specs.Crossings.{is_on_points}
 use Rattle.ground_model.proofs.LinePieces.{IsPiece}
 use Rattle.predicates.specs.Net.{Net, times_in, edges_in}
-use Rattle.cdt_law.specs.Boundary.{gone}
-use Rattle.cdt_law.proofs.GoneFacets.{among-some, GoneOn}
+use Rattle.cdt_law.proofs.GoneFacets.{GoneOn}
 use Rattle.cdt_law.proofs.KeptPieces.{piece_law}
 use Rattle.cdt_law.proofs.PieceParts.{IsClear}
 use Rattle.cdt_law.proofs.LineTimes.{runs_on, AreNext, runs-same, runs-back, piece-runs}

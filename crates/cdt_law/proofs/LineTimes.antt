@@ -1,5 +1,5 @@
 -- How often one line runs over an edge: as often over other points, where these have its pieces too.
-use Rattle.std.proofs.Common.{◌≡◌, ℕ, ◌<◌, ◌⊎◌, inl, inr, refl, sym, ap, ◌∙◌, arith, List, Bool, true, false, cond}
+use Rattle.std.proofs.Common.{◌≡◌, ℕ, ◌<◌, ◌⊎◌, inl, inr, refl, ap, arith, List, Bool, true, false, cond}
 use Rattle.std.specs.Prelude.{if◌then◌else◌}
 use Rattle.ground_model.specs.Place.{Coords, is_before}
 use Rattle.ground_model.specs.Line.{Line, is_point, has_piece}

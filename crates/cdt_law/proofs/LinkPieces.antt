@@ -1,6 +1,6 @@
 -- Each place of a line that may be added is an end of one of its pieces.
-use Rattle.std.proofs.Common.{◌≡◌, ℕ, zero, suc, ◌≤◌, ◌⊎◌, inl, inr, refl, sym, ap, subst, ◌∙◌, arith, List, [], ◌∷◌, ◌++◌, Bool, true, false, Some, None}
-use Rattle.std.specs.Prelude.{◌&&◌, drop, length, if◌then◌else◌, nat_lt, take}
+use Rattle.std.proofs.Common.{◌≡◌, ◌≤◌, ◌⊎◌, inl, inr, refl, sym, ap, subst, ◌∙◌, arith, List, [], ◌∷◌, ◌++◌, Bool, true, None}
+use Rattle.std.specs.Prelude.{◌&&◌, drop, length, if◌then◌else◌, take}
 use Rattle.std.specs.List.{zip, position_from}
 use Rattle.std.proofs.lemmas.Bool.{and_parts, and_from, both_ways as clash}
 use Rattle.ground_model.specs.Place.{Coords, is_before, is_same}

@@ -1,5 +1,5 @@
 -- The pieces of a content with a mesh cross nowhere: they are edges of a sheet.
-use Rattle.std.proofs.Common.{◌≡◌, ℕ, ◌+◌, ◌<◌, inl, inr, ◌⊎◌, refl, sym, ap, subst, ◌∙◌, arith, List, [], ◌∷◌, Bool, true, false, cond, Some, None}
+use Rattle.std.proofs.Common.{◌≡◌, ℕ, ◌+◌, ◌<◌, inl, inr, refl, sym, ap, subst, ◌∙◌, arith, List, [], ◌∷◌, Bool, true, false, cond, Some, None}
 use Rattle.std.specs.Prelude.{◌&&◌, find, option_map, nat_le, nat_lt}
 use Rattle.std.specs.List.{list_any, enumerate_from}
 use Rattle.ground_model.specs.declared.line.LineKind.{LineKind}
@@ -9,7 +9,7 @@ use Rattle.ground_model.specs.declared.edit.Edit.TheVariants.{AddLine}
 use Rattle.ground_model.specs.Place.{Coords}
 use Rattle.ground_model.specs.Side.{crosses, is_on_segment}
 use Rattle.ground_model.specs.Line.{Line, Segment, links, pairs, pieces_of}
-use Rattle.ground_model.specs.Table.{Table, numbered, least_where, count_on}
+use Rattle.ground_model.specs.Table.{numbered, least_where, count_on}
 use Rattle.ground_model.specs.Crossings.{any_cross, lines_cross, least_pair, joint, self_cross, pieces_on_link}
 use Rattle.ground_model.specs.Content.{Content, after, points_of, lines_of}
 use Rattle.ground_model.specs.Planar.{IsPlanar}
@@ -27,7 +27,7 @@ along : (m n : ℕ) → m ≡ n → 0 < m → 0 < n
 along m n e h = omega (arith, e, h)
 
 -- a search finds nothing where nothing passes
-find-none : {X : Type 0} (test : X → Bool) (xs : List X) → ((x : X) → In x xs → test x ≡ false) → find test xs ≡ None
+pub find-none : {X : Type 0} (test : X → Bool) (xs : List X) → ((x : X) → In x xs → test x ≡ false) → find test xs ≡ None
 find-none test [] h = refl
 find-none test (x ∷ xs) h = ap (λ t. cond t (Some x) (find test xs)) (h x (inl refl)) ∙ find-none test xs (λ y i. h y (inr i))
 

@@ -1,34 +1,29 @@
 -- A plan that is no hull plan, and of which no planned facet or point is missing at a newer content, is right there.
-use Rattle.std.proofs.Common.{◌≡◌, ◌⊎◌, inl, inr, refl, sym, ap, subst, ◌∙◌, List, [], ◌∷◌, Bool, true, false, Some, None}
-use Rattle.std.specs.Prelude.{ℤ, not, ◌&&◌, ◌||◌, Option, is_some, nat_lt, nat_le, length}
+use Rattle.std.proofs.Common.{◌≡◌, ◌⊎◌, inl, inr, refl, sym, ◌∙◌, List, Bool, true, false}
+use Rattle.std.specs.Prelude.{ℤ, not, ◌&&◌, ◌||◌}
 use Rattle.std.specs.List.{All, list_any}
 use Rattle.std.specs.FinMap as finmap
 use Rattle.std.proofs.lemmas.Cmp.{nat_cmp_total}
-use Rattle.std.proofs.lemmas.Bool.{and_parts, and_from, or_left, or_right, or_cases, both_ways as clash, not_from_false, not-false}
+use Rattle.std.proofs.lemmas.Bool.{and_parts, and_from, or_left, or_right, or_cases, not_from_false}
 use Rattle.ground_model.specs.declared.corner.Corner.{Corner}
 use Rattle.ground_model.specs.declared.corner.Corner.TheVariants.{At}
 use Rattle.ground_model.specs.declared.facet.Facet.{Facet}
-use Rattle.ground_model.specs.declared.limits.Limits.{Limits}
 use Rattle.ground_model.specs.declared.line.LineId.{LineId}
 use Rattle.ground_model.specs.declared.line.LineKind.{LineKind}
 use Rattle.ground_model.specs.declared.edit.Edit.{Edit}
 use Rattle.ground_model.specs.declared.edit.Edit.TheVariants.{AddPoint, RemovePoint, SetLevel, AddLine, RemoveLine}
-use Rattle.ground_model.specs.declared.refusal.Refusal.{Refusal}
-use Rattle.ground_model.specs.declared.refusal.Refusal.TheVariants.{Occupied, Absent, NoLine, PointsFull}
-use Rattle.ground_model.specs.Place.{Coords, IsPlace, is_same}
-use Rattle.ground_model.specs.Line.{Line, is_point, has_place}
+use Rattle.ground_model.specs.Place.{Coords, IsPlace}
+use Rattle.ground_model.specs.Line.{Line, has_place}
 use Rattle.ground_model.specs.Table.{numbered}
 use Rattle.ground_model.specs.Crossings.{is_on_points}
-use Rattle.ground_model.specs.Content.{Content, after, points_of, lines_of, level_of, count}
+use Rattle.ground_model.specs.Content.{Content, after, points_of, lines_of, count}
 use Rattle.ground_model.specs.Tri.{tri}
 use Rattle.ground_model.specs.Mark.{is_among}
 use Rattle.ground_model.specs.Zone.{destroyed, made, shaken, planned_facets}
 use Rattle.ground_model.specs.Planar.{IsPlanar}
-use Rattle.ground_model.specs.Refusal.{when, because, first_of, edit_refusal}
 use Rattle.ground_model.proofs.Elements.{In, both_true, each_at, each_from, in_map, entry_of_get}
-use Rattle.ground_model.proofs.LinePieces.{is_same_itself, in_points, is_point_in}
-use Rattle.ground_model.proofs.Planar.{is_point-keys, on_at, places_on, still_on}
-use Rattle.ground_model.proofs.Causes.{line_parts, point_parts, no_line_where}
+use Rattle.ground_model.proofs.LinePieces.{in_points, is_point_in}
+use Rattle.ground_model.proofs.Planar.{on_at, still_on}
 use Rattle.predicates.specs.Net.{Net, Triangle, has, facets_of, net_over}
 use Rattle.cdt_law.specs.Patch.{is_in}
 use Rattle.cdt_law.specs.Hull.{Encloses}
@@ -37,13 +32,13 @@ use Rattle.cdt_law.specs.Point.{IsJoined, is_corner_of}
 use Rattle.cdt_law.specs.Enclose.{HasPointMore}
 use Rattle.cdt_law.specs.Corners.{IsCornerOfGone}
 use Rattle.cdt_law.specs.Vertices.{AreCarried}
-use Rattle.cdt_law.specs.Plans.{Plan, HasMeshes, IsLawfulTwice, Stands, IsMesh, IsRight, PlanLaw, base_net, planned_net, newest_net, renewed, is_carried, is_on_hull, is_hull_plan}
+use Rattle.cdt_law.specs.Plans.{Plan, HasMeshes, Stands, IsMesh, IsRight, PlanLaw, base_net, planned_net, newest_net, renewed, is_carried, is_on_hull, is_hull_plan}
 use Rattle.cdt_law.proofs.FacetLaws.{facet_law}
 use Rattle.cdt_law.proofs.PointLaw.{added-points, added-it, added-places, removed-points, point_law}
 use Rattle.cdt_law.proofs.Hull.{hull_law}
 use Rattle.cdt_law.proofs.Enclosed.{enclose_law}
 use Rattle.cdt_law.proofs.Stars.{star_law}
-use Rattle.cdt_law.proofs.GoneFacets.{Gone, gone-of, facet-among}
+use Rattle.cdt_law.proofs.GoneFacets.{gone-of, facet-among}
 use Rattle.cdt_law.proofs.PiecesWithout.{still}
 use Rattle.cdt_law.proofs.TableCounts.{line-more, line-less}
 use Rattle.cdt_law.proofs.LineEdits.{line-added, line-taken}
@@ -278,7 +273,7 @@ module _ (base newest : Content) (before planned now : List Triangle) where
           (on-still base l.planar l.able.1) (on-still newest l.planar_now l.able_now.1) (less p m l.planar l.able s) less_now (all-destroyed p m l.planar l.able s)
 
   -- a level that is set has no facet in its zone
-  set-level : (p : Coords) (z : ℤ) → Stands (plan_of (SetLevel p z)) → ⊥
+  pub set-level : (p : Coords) (z : ℤ) → Stands (plan_of (SetLevel p z)) → ⊥
   unfolding is_hull_plan
   set-level p z s = by s.inner
     where

@@ -1,18 +1,15 @@
 -- The points that an edit of a base adds or takes, it adds or takes at a newer net.
 use Rattle.std.proofs.Common.{◌≡◌, ◌⊎◌, inl, inr, refl, sym, ap, subst, ◌∙◌, Bool, true, false}
 use Rattle.std.specs.Prelude.{not, ◌&&◌, ◌||◌}
-use Rattle.std.proofs.lemmas.Bool.{and_parts, and_from, both_ways as clash, or_cases, not_from_false}
+use Rattle.std.proofs.lemmas.Bool.{and_from, both_ways as clash, or_cases, not_from_false}
 use Rattle.ground_model.specs.declared.corner.Corner.{Corner}
 use Rattle.ground_model.specs.declared.corner.Corner.TheVariants.{At}
 use Rattle.ground_model.specs.declared.facet.Facet.{Facet}
 use Rattle.ground_model.specs.Place.{Coords, is_same}
 use Rattle.ground_model.specs.Line.{is_point}
-use Rattle.ground_model.specs.Mark.{is_among}
-use Rattle.ground_model.proofs.LinePieces.{is_same_itself}
 use Rattle.ground_model.proofs.Ties.{same_of_is_same}
-use Rattle.predicates.specs.Net.{Net, has, facets_of, has_corner}
+use Rattle.predicates.specs.Net.{Net, has}
 use Rattle.predicates.specs.Sheet.{IsSheet}
-use Rattle.predicates.proofs.Owners.{IsTurn}
 use Rattle.predicates.proofs.Holding.{turn-has_corner}
 use Rattle.cdt_law.specs.Patch.{is_in}
 use Rattle.cdt_law.specs.Boundary.{gone}
@@ -21,7 +18,7 @@ use Rattle.cdt_law.specs.Point.{is_corner_of}
 use Rattle.cdt_law.specs.Corners.{IsCornerOfGone}
 use Rattle.cdt_law.specs.Vertices.{AreCarried}
 use Rattle.cdt_law.proofs.WalkSteps.{at-corner}
-use Rattle.cdt_law.proofs.GoneFacets.{FirstTurn, first-turn, facet-among, Gone, gone-of}
+use Rattle.cdt_law.proofs.GoneFacets.{FirstTurn, first-turn, Gone}
 use Rattle.cdt_law.proofs.Renewed.{without-of}
 use Rattle.cdt_law.proofs.PiecesWithout.{still, not-it, other}
 use Rattle.cdt_law.proofs.PointEdits.{IsLess}

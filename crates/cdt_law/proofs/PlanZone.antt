@@ -1,12 +1,11 @@
 -- What a plan's zone tells: a newer net still has what the edit destroys at the base and what is beside that.
-use Rattle.std.proofs.Common.{◌≡◌, ℕ, zero, suc, ◌⊎◌, inl, inr, refl, sym, ap, subst, ◌∙◌, List, [], ◌∷◌, Bool, true, false, Some}
+use Rattle.std.proofs.Common.{◌≡◌, inl, refl, sym, ap, subst, ◌∙◌, List, [], ◌∷◌, Bool, true, false}
 use Rattle.std.specs.Prelude.{length, not, ◌&&◌, ◌||◌, map, nat_eq}
-use Rattle.std.specs.List.{list_any, filter}
-use Rattle.std.proofs.lemmas.Bool.{and_from, or_left, or_right, not_from_false, both_ways as clash}
+use Rattle.std.specs.List.{list_any}
+use Rattle.std.proofs.lemmas.Bool.{and_from, or_left, or_right, not_from_false}
 use Rattle.ground_model.specs.declared.corner.Corner.{Corner}
 use Rattle.ground_model.specs.declared.corner.Corner.TheVariants.{At}
 use Rattle.ground_model.specs.declared.facet.Facet.{Facet}
-use Rattle.ground_model.specs.declared.mark.Mark.{Mark}
 use Rattle.ground_model.specs.declared.mark.Mark.TheVariants.{Tri}
 use Rattle.ground_model.specs.Place.{Coords, is_same}
 use Rattle.ground_model.specs.Content.{Content, after}
@@ -17,21 +16,21 @@ use Rattle.ground_model.specs.Answer.{is_there}
 use Rattle.ground_model.proofs.Elements.{In, any_gives, any_from, none_at, of_filter, in_filter, in_map, in_second, each_at}
 use Rattle.ground_model.proofs.LinePieces.{is_same_itself}
 use Rattle.ground_model.proofs.Members.{is_among-tri}
-use Rattle.predicates.specs.Net.{Net, has, facet_by, facets_of, count_of}
+use Rattle.predicates.specs.Net.{Net, has, facets_of, count_of}
 use Rattle.predicates.specs.Sheet.{IsSheet}
-use Rattle.predicates.proofs.HasTriangles.{HasOwner, has-owner}
+use Rattle.predicates.proofs.HasTriangles.{has-owner}
 use Rattle.predicates.proofs.Owners.{IsTurn}
 use Rattle.predicates.proofs.OneOwner.{one_on_edge}
 use Rattle.cdt_law.specs.Laws.{has_edge}
 use Rattle.cdt_law.specs.Patch.{is_in}
-use Rattle.cdt_law.specs.Boundary.{gone, IsMet, IsInner}
+use Rattle.cdt_law.specs.Boundary.{gone, IsInner}
 use Rattle.cdt_law.specs.Enclose.{HasGone}
 use Rattle.cdt_law.specs.Stale.{IsUnchanged}
 use Rattle.cdt_law.specs.EdgeCounts.{CountAlike}
 use Rattle.cdt_law.specs.Plans.{Plan, HasMeshes, Stands, base_net, planned_net, newest_net, is_met, is_on_hull, is_hull_plan}
 use Rattle.cdt_law.proofs.SheetFacets.{same-facet, facet-same}
 use Rattle.cdt_law.proofs.FacetLaws.{facet_law}
-use Rattle.cdt_law.proofs.GoneFacets.{Places, places-of, some-facet, facet-among, HasFacet, facet-there, Gone, gone-of}
+use Rattle.cdt_law.proofs.GoneFacets.{places-of, some-facet, facet-among, facet-there, Gone, gone-of}
 use Rattle.cdt_law.proofs.FacetEdges.{edge-in, edge-of, triangle-at, facet-counts, gone-facet}
 
 -- ---- facets of a list

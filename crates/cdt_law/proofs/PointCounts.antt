@@ -1,5 +1,5 @@
 -- Counts in both directions, with a point that no line has as a place and without it.
-use Rattle.std.proofs.Common.{◌≡◌, ℕ, zero, suc, ◌<◌, ◌⊎◌, inl, inr, refl, sym, ap, subst, ◌∙◌, arith, List, Bool, true, false}
+use Rattle.std.proofs.Common.{◌≡◌, ℕ, zero, suc, ◌<◌, ◌⊎◌, inl, inr, refl, sym, ◌∙◌, arith, List, Bool, true, false}
 use Rattle.std.specs.Prelude.{not, ◌&&◌, if◌then◌else◌}
 use Rattle.std.proofs.lemmas.Bool.{and_parts, and_from, both_ways as clash}
 use Rattle.ground_model.specs.Place.{Coords, is_before, is_same}
@@ -8,14 +8,13 @@ use Rattle.ground_model.specs.Line.{Line, is_point}
 use Rattle.ground_model.specs.Table.{count_on}
 use Rattle.ground_model.specs.Crossings.{is_on_points}
 use Rattle.ground_model.proofs.Elements.{In}
-use Rattle.ground_model.proofs.LinePieces.{is_point_in, IsPiece}
+use Rattle.ground_model.proofs.LinePieces.{is_point_in}
 use Rattle.ground_model.proofs.Along.{same_place}
 use Rattle.ground_model.proofs.Segments.{not_after, before_trans}
-use Rattle.cdt_law.proofs.ThinnerSites.{Amid}
 use Rattle.cdt_law.proofs.Counts.{both_ways, both-then, both-else}
-use Rattle.cdt_law.proofs.LongerPieces.{Inside, amid, amid-back, from-before, to-after}
-use Rattle.cdt_law.proofs.CountsWithout.{OfLine, of-line, line-counts, either-way, same-count}
-use Rattle.cdt_law.proofs.PieceParts.{IsClear, clear-of, one-before-c, one-after-c, half-before, half-after}
+use Rattle.cdt_law.proofs.LongerPieces.{Inside, from-before, to-after}
+use Rattle.cdt_law.proofs.CountsWithout.{of-line, line-counts, either-way, same-count}
+use Rattle.cdt_law.proofs.PieceParts.{clear-of, one-before-c, one-after-c, half-before, half-after}
 use Rattle.cdt_law.proofs.LineTimes.{AreNext}
 
 -- x lies strictly between u and v

@@ -1,5 +1,5 @@
 -- A point that is added or taken: it parts pieces at a newer net, where its plan stands, as it does those of the base.
-use Rattle.std.proofs.Common.{◌≡◌, ℕ, zero, suc, ◌+◌, ◌<◌, ◌⊎◌, inl, inr, refl, sym, ap, subst, ◌∙◌, arith, List, Bool, true, false}
+use Rattle.std.proofs.Common.{◌≡◌, ℕ, zero, suc, ◌<◌, ◌⊎◌, inl, inr, refl, sym, ap, subst, ◌∙◌, arith, List, Bool, true, false}
 use Rattle.std.specs.Prelude.{not, ◌&&◌}
 use Rattle.std.proofs.lemmas.Bool.{both_ways as clash}
 use Rattle.ground_model.specs.declared.corner.Corner.{Corner}
@@ -16,7 +16,6 @@ use Rattle.predicates.proofs.Owners.{owner}
 use Rattle.predicates.proofs.HasTriangles.{owner-has}
 use Rattle.cdt_law.specs.Patch.{is_in}
 use Rattle.cdt_law.specs.Boundary.{gone}
-use Rattle.cdt_law.specs.Stale.{without}
 use Rattle.cdt_law.proofs.Counts.{both_ways}
 use Rattle.cdt_law.proofs.GoneFacets.{GoneOn}
 use Rattle.cdt_law.proofs.KeptPieces.{piece_law}

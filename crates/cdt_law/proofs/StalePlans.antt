@@ -1,7 +1,7 @@
 -- A plan made at a legal history's base is right at its newest front, where no planned facet or point has changed.
 use Rattle.std.proofs.Common.{◌≡◌, ℕ, zero, suc, ◌+◌, ◌<◌, ◌≤◌, ◌⊎◌, inl, inr, refl, sym, ap, subst, ◌∙◌, arith, List, [], ◌∷◌, Bool, true, false, cond, Some, None, take}
-use Rattle.std.specs.Prelude.{not, ◌-◌, ◌||◌, map, Option, slice_get, length, find, nat_lt, if◌then◌else◌}
-use Rattle.std.specs.List.{All, list_any}
+use Rattle.std.specs.Prelude.{not, ◌-◌, ◌||◌, map, slice_get, length, find, nat_lt, if◌then◌else◌}
+use Rattle.std.specs.List.{list_any}
 use Rattle.std.specs.declared.cmp.Ordering.{Ordering}
 use Rattle.std.specs.declared.cmp.Ordering.TheVariants.{Less, Equal, Greater}
 use Rattle.std.specs.Ordering.{eq_by_cmp, nat_cmp, is_eq}
@@ -13,7 +13,7 @@ use Rattle.std.proofs.Math.Seq.{take-length}
 use Rattle.ground_model.specs.declared.limits.Limits.{Limits}
 use Rattle.ground_model.specs.declared.entry.Entry.{Entry}
 use Rattle.ground_model.specs.declared.mark.Mark.{Mark}
-use Rattle.ground_model.specs.declared.mark.Mark.TheVariants.{Point, Tri}
+use Rattle.ground_model.specs.declared.mark.Mark.TheVariants.{Tri}
 use Rattle.ground_model.specs.declared.facet.Facet.{Facet}
 use Rattle.ground_model.specs.declared.line.LineId.{LineId}
 use Rattle.ground_model.specs.declared.edit.Edit.{Edit}
@@ -32,7 +32,7 @@ use Rattle.ground_model.proofs.Past.{content_of-next, there_between}
 use Rattle.ground_model.proofs.Members.{is_among-tri}
 use Rattle.ground_model.proofs.Causes.{lawful_edit}
 use Rattle.predicates.specs.Net.{Triangle}
-use Rattle.cdt_law.specs.Plans.{Plan, Stands}
+use Rattle.cdt_law.specs.Plans.{Stands}
 use Rattle.cdt_law.specs.StalePlan.{Stale, IsFresh, StaleLaw, content_at, plan_at}
 use Rattle.cdt_law.proofs.Able.{Able, able-of}
 use Rattle.cdt_law.proofs.PlanZone.{in-among}

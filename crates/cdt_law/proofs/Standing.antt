@@ -26,9 +26,9 @@ use Rattle.cdt_law.specs.Vertices.{AreCarried, AreCorners}
 use Rattle.cdt_law.specs.EdgeCounts.{CountAlike}
 use Rattle.cdt_law.proofs.GoodInSheet.{over-first}
 use Rattle.cdt_law.proofs.Hull.{hull_law}
-use Rattle.cdt_law.proofs.Overlaps.{ThreeOf, three-of}
+use Rattle.cdt_law.proofs.Overlaps.{three-of}
 use Rattle.cdt_law.proofs.Patched.{among-append}
-use Rattle.cdt_law.proofs.GoneFacets.{among-some, turn-in, Places, places-of, Gone, gone-of, GoneOn}
+use Rattle.cdt_law.proofs.GoneFacets.{among-some, places-of, gone-of, GoneOn}
 use Rattle.cdt_law.proofs.Renewed.{gone-has, renewed-closed, in-renewed, edge-once, without-of, without-in, zone_law}
 use Rattle.cdt_law.proofs.Vertices.{vertex_law}
 use Rattle.cdt_law.proofs.EdgeCounts.{count_law}

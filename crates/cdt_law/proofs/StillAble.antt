@@ -1,59 +1,45 @@
 -- An edit whose plan is fresh can be made at the history's front, but for limits and crossings.
-use Rattle.std.proofs.Common.{◌≡◌, ℕ, zero, suc, ◌+◌, ◌<◌, ◌≤◌, ◌⊎◌, inl, inr, refl, sym, ap, subst, ◌∙◌, arith, List, [], ◌∷◌, Bool, true, false, cond, Some, None}
-use Rattle.std.specs.Prelude.{ℤ, not, Option, slice_get, length, take}
-use Rattle.std.specs.List.{All, list_any}
-use Rattle.std.specs.declared.cmp.Ordering.{Ordering}
-use Rattle.std.specs.declared.cmp.Ordering.TheVariants.{Less, Equal, Greater}
-use Rattle.std.specs.Ordering.{eq_by_cmp, nat_cmp, is_eq}
+use Rattle.std.proofs.Common.{◌≡◌, ℕ, suc, ◌+◌, ◌<◌, ◌≤◌, ◌⊎◌, inl, inr, refl, sym, ap, subst, ◌∙◌, arith, List, Bool, true, false, Some, None}
+use Rattle.std.specs.Prelude.{ℤ, slice_get, length, take}
 use Rattle.std.specs.FinMap as finmap
-use Rattle.std.proofs.lemmas.Bool.{both_ways as clash, not-true}
+use Rattle.std.proofs.lemmas.Bool.{both_ways as clash}
 use Rattle.std.proofs.lemmas.Cmp.{nat_cmp_total}
 use Rattle.ground_model.specs.declared.corner.Corner.{Corner}
 use Rattle.ground_model.specs.declared.corner.Corner.TheVariants.{At}
 use Rattle.ground_model.specs.declared.limits.Limits.{Limits}
 use Rattle.ground_model.specs.declared.entry.Entry.{Entry}
-use Rattle.ground_model.specs.declared.line.LineId.{LineId}
 use Rattle.ground_model.specs.declared.line.LineKind.{LineKind}
 use Rattle.ground_model.specs.declared.edit.Edit.{Edit}
 use Rattle.ground_model.specs.declared.edit.Edit.TheVariants.{AddPoint, RemovePoint, SetLevel, AddLine, RemoveLine}
 use Rattle.ground_model.specs.Place.{Coords, is_same}
-use Rattle.ground_model.specs.Line.{Line, is_point, has_place, has_piece, pairs}
+use Rattle.ground_model.specs.Line.{Line, is_point, has_place}
 use Rattle.ground_model.specs.Table.{numbered}
-use Rattle.ground_model.specs.Crossings.{is_on_points}
-use Rattle.ground_model.specs.Content.{Content, after, points_of, lines_of, count}
-use Rattle.ground_model.specs.Mark.{is_among}
-use Rattle.ground_model.specs.Planar.{IsPlanar}
+use Rattle.ground_model.specs.Content.{Content, after, points_of, lines_of}
 use Rattle.ground_model.specs.Refusal.{edit_refusal}
-use Rattle.ground_model.proofs.Elements.{In, any_gives, any_from, all_from, each_at, each_from, of_map, in_map, in_pairs, none_at, entry_of_insert, entry_of_remove, entry_of_get}
-use Rattle.ground_model.proofs.LinePieces.{IsPiece, piece_of, has_piece_from, is_point_in}
+use Rattle.ground_model.proofs.Elements.{In, any_gives, each_at, each_from, of_map, in_map, entry_of_insert, entry_of_remove}
+use Rattle.ground_model.proofs.LinePieces.{IsPiece}
 use Rattle.ground_model.proofs.Ties.{same_of_is_same}
-use Rattle.ground_model.proofs.Planar.{on_at}
 use Rattle.ground_model.proofs.Past.{content_of-next}
 use Rattle.ground_model.proofs.Causes.{lawful_edit}
-use Rattle.predicates.specs.Net.{Net, Triangle, has, count_of, count_between, facets_of}
+use Rattle.predicates.specs.Net.{Triangle, count_between}
 use Rattle.predicates.proofs.Owners.{IsTurn, Still, Once, Twice, owner}
 use Rattle.predicates.proofs.HasTriangles.{HasOwner, has-owner, owner-has}
-use Rattle.cdt_law.specs.Patch.{is_in}
-use Rattle.cdt_law.specs.Boundary.{gone}
 use Rattle.cdt_law.specs.Corners.{IsCornerOfGone}
 use Rattle.cdt_law.specs.Plans.{Plan, HasMeshes, Stands, base_net, planned_net, newest_net}
 use Rattle.cdt_law.specs.StalePlan.{Stale, IsFresh, content_at, plan_at}
 use Rattle.cdt_law.specs.Limits.{HaveMeshes}
 use Rattle.cdt_law.proofs.GoodInSheet.{over-first, sheet-only}
-use Rattle.cdt_law.proofs.FacetLaws.{unique_law}
-use Rattle.cdt_law.proofs.GoneFacets.{facet-among, Gone, gone-of, GoneOn}
+use Rattle.cdt_law.proofs.GoneFacets.{GoneOn}
 use Rattle.cdt_law.proofs.SharedCorners.{Covered, covered-by}
-use Rattle.cdt_law.proofs.PointCounts.{both-even}
-use Rattle.cdt_law.proofs.LineTimes.{runs_on, once_on, AreNext, runs-same, piece-runs, piece-runs-back}
-use Rattle.cdt_law.proofs.LineEdits.{pieces-there}
-use Rattle.cdt_law.proofs.TableCounts.{line-more, line-less}
+use Rattle.cdt_law.proofs.LineTimes.{runs_on, piece-runs, piece-runs-back}
+use Rattle.cdt_law.proofs.TableCounts.{line-more}
 use Rattle.cdt_law.proofs.Standing as standing
 use Rattle.cdt_law.proofs.Able.{Able, able-of}
-use Rattle.cdt_law.proofs.PlanZone.{some-gone, unchanged, alike}
-use Rattle.cdt_law.proofs.PlanLaw.{after_net, added-encloses, made-at-it, destroyed-at-it, all-destroyed, line-stands, taken-line-stands}
+use Rattle.cdt_law.proofs.PlanZone.{unchanged, alike}
+use Rattle.cdt_law.proofs.PlanLaw.{added-encloses, made-at-it, destroyed-at-it, all-destroyed}
 use Rattle.cdt_law.proofs.StalePlans.{planar-taken, from-base, able-base, stands-at}
-use Rattle.cdt_law.proofs.LinkPieces.{PieceAt, piece-at}
-use Rattle.cdt_law.proofs.LimitCauses.{IsLong, two-places, no-point-link, long-of}
+use Rattle.cdt_law.proofs.LinkPieces.{piece-at}
+use Rattle.cdt_law.proofs.LimitCauses.{two-places, no-point-link, long-of}
 
 module _ (limits : Limits) (h : List Entry) (b : ℕ) (before planned : List Triangle) (now : ℕ → List Triangle) where
   abbrev pub stale_of : Edit → Stale

@@ -1,6 +1,6 @@
 -- A line that a fresh plan adds or takes can be added or taken at the history's front, but for limits and crossings.
-use Rattle.std.proofs.Common.{◌≡◌, ℕ, zero, suc, ◌+◌, ◌<◌, ◌≤◌, ◌⊎◌, inl, inr, refl, sym, ap, subst, ◌∙◌, arith, List, [], ◌∷◌, Bool, true, false, cond, Some, None}
-use Rattle.std.specs.Prelude.{ℤ, ◌&&◌, Option, slice_get, length, if◌then◌else◌}
+use Rattle.std.proofs.Common.{◌≡◌, ℕ, suc, ◌+◌, ◌<◌, ◌≤◌, ◌⊎◌, inl, inr, refl, sym, ap, ◌∙◌, arith, List, Bool, true, false, cond, Some, None}
+use Rattle.std.specs.Prelude.{slice_get, length, if◌then◌else◌}
 use Rattle.std.specs.List.{list_any}
 use Rattle.std.specs.declared.cmp.Ordering.{Ordering}
 use Rattle.std.specs.declared.cmp.Ordering.TheVariants.{Less, Equal, Greater}
@@ -18,13 +18,13 @@ use Rattle.ground_model.specs.declared.edit.Edit.TheVariants.{AddPoint, RemovePo
 use Rattle.ground_model.specs.Place.{Coords, is_before}
 use Rattle.ground_model.specs.Line.{Line, is_point, has_piece, pairs}
 use Rattle.ground_model.specs.Crossings.{is_on_points}
-use Rattle.ground_model.specs.Content.{Content, after, points_of, lines_of, count}
+use Rattle.ground_model.specs.Content.{Content, after, points_of, count}
 use Rattle.ground_model.specs.Mark.{is_among}
 use Rattle.ground_model.proofs.Elements.{In, any_gives, all_from, none_at, in_pairs}
 use Rattle.ground_model.proofs.LinePieces.{IsPiece, piece_of}
 use Rattle.ground_model.proofs.Past.{content_of-next}
 use Rattle.ground_model.proofs.Causes.{lawful_edit}
-use Rattle.predicates.specs.Net.{Net, Triangle, count_between, facets_of}
+use Rattle.predicates.specs.Net.{Triangle, count_between, facets_of}
 use Rattle.cdt_law.specs.Laws.{AreOverOne}
 use Rattle.cdt_law.specs.Plans.{Plan, HasMeshes, Stands, base_net, planned_net, newest_net}
 use Rattle.cdt_law.specs.StalePlan.{IsFresh, content_at, plan_at}
@@ -36,11 +36,11 @@ use Rattle.cdt_law.proofs.LineTimes.{runs_on, once_on, runs-same, piece-runs}
 use Rattle.cdt_law.proofs.LineEdits.{pieces-there}
 use Rattle.cdt_law.proofs.TableCounts.{line-more, line-less}
 use Rattle.cdt_law.proofs.Standing as standing
-use Rattle.cdt_law.proofs.Able.{Able, able-of}
-use Rattle.cdt_law.proofs.PlanZone.{some-gone, unchanged, alike}
+use Rattle.cdt_law.proofs.Able.{Able}
+use Rattle.cdt_law.proofs.PlanZone.{some-gone, alike}
 use Rattle.cdt_law.proofs.PlanLaw.{after_net, line-stands, taken-line-stands}
 use Rattle.cdt_law.proofs.StalePlans.{planar-taken, from-base, not-next, still-old, able-base, stands-at}
-use Rattle.cdt_law.proofs.LinkPieces.{PieceAt, piece-at}
+use Rattle.cdt_law.proofs.LinkPieces.{piece-at}
 use Rattle.cdt_law.proofs.LimitCauses.{IsLong, two-places, no-point-link, long-of}
 use Rattle.cdt_law.proofs.StillAble.{stale_of}
 

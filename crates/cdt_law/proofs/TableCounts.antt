@@ -1,7 +1,6 @@
 -- What a line more or less in the table of lines does to counts.
 use Rattle.std.proofs.Common.{◌≡◌, ℕ, ◌+◌, ◌<◌, refl, sym, ap, ◌∙◌, arith, List, [], ◌∷◌, Bool, true, false, cond, Some, None}
 use Rattle.std.specs.Prelude.{map, count_by, Option, if◌then◌else◌}
-use Rattle.std.specs.List.{All}
 use Rattle.std.specs.declared.cmp.Ordering.{Ordering}
 use Rattle.std.specs.declared.cmp.Ordering.TheVariants.{Less, Equal, Greater}
 use Rattle.std.specs.Ordering.{nat_cmp, eq_by_cmp, is_eq}
@@ -15,7 +14,7 @@ use Rattle.ground_model.specs.declared.line.LineKind.{LineKind}
 use Rattle.ground_model.specs.declared.edit.Edit.TheVariants.{AddLine, RemoveLine}
 use Rattle.ground_model.specs.Place.{Coords, is_before}
 use Rattle.ground_model.specs.Line.{Line, has_piece}
-use Rattle.ground_model.specs.Table.{Table, live, with_line, without_line, count_on}
+use Rattle.ground_model.specs.Table.{live, with_line, without_line, count_on}
 use Rattle.ground_model.specs.Content.{Content, after, points_of, lines_of}
 use Rattle.ground_model.specs.Planar.{IsPlanar}
 use Rattle.ground_model.proofs.Elements.{entry_of_get, each_at}

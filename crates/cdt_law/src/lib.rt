@@ -8,6 +8,7 @@ ghost use Rattle.cdt_law.specs.EdgeCounts.{CountLaw};
 ghost use Rattle.cdt_law.specs.Enclose.{EncloseLaw};
 ghost use Rattle.cdt_law.specs.Flips.{DestroyedLaw, EditLaw, FallLaw, FlipLaw, KeptLaw};
 ghost use Rattle.cdt_law.specs.Hull.{HullLaw};
+ghost use Rattle.cdt_law.specs.Limits.{LimitLaw};
 ghost use Rattle.cdt_law.specs.Order.{OrderLaw};
 ghost use Rattle.cdt_law.specs.Patch.{PatchLaw};
 ghost use Rattle.cdt_law.specs.Pieces.{PieceLaw};
@@ -168,4 +169,10 @@ pub fn plan_law()
 /// point has changed since, is right at the history's front, where its edit is lawful there.
 pub fn stale_law()
     ensures { StaleLaw }
+{}
+
+/// The edit of such a plan is lawful at the history's front but for limits: if it is refused there, then because there is no
+/// room for a point, a line, the places of lines or an entry. So no line need be looked at for a place, a crossing or a join.
+pub fn limit_law()
+    ensures { LimitLaw }
 {}
