@@ -67,6 +67,7 @@ pub mod LineEdits
 pub mod TableCounts
 pub mod PointCounts
 pub mod PointEdits
+pub mod TakenPoints
 pub mod CarriedFacets
 pub mod PlanZone
 pub mod PlanPoints

@@ -43,7 +43,8 @@ use Rattle.cdt_law.proofs.PiecesWithout.{still}
 use Rattle.cdt_law.proofs.TableCounts.{line-more, line-less}
 use Rattle.cdt_law.proofs.LineEdits.{line-added, line-taken}
 use Rattle.cdt_law.proofs.PointCounts.{both-even}
-use Rattle.cdt_law.proofs.PointEdits.{IsLess, point-added, point-taken}
+use Rattle.cdt_law.proofs.PointEdits.{IsLess, point-added}
+use Rattle.cdt_law.proofs.TakenPoints.{point-taken}
 use Rattle.cdt_law.proofs.Standing as standing
 use Rattle.cdt_law.proofs.CarriedFacets.{made-facet, kept-facet, after-facet}
 use Rattle.cdt_law.proofs.Able.{Able, able-of}
