@@ -29,6 +29,10 @@ mod sheets;
 #[cfg(test)]
 mod slots;
 #[cfg(test)]
+mod stale_plans;
+#[cfg(test)]
+mod surfaces;
+#[cfg(test)]
 mod triangles;
 #[cfg(test)]
 mod volumes;
