@@ -24,6 +24,7 @@ use Rattle.predicates.proofs.FlatSides.{side-back}
 use Rattle.cdt_law.specs.Patch.{is_in}
 use Rattle.cdt_law.specs.Hull.{Encloses}
 use Rattle.cdt_law.specs.Boundary.{gone, IsInner}
+use Rattle.cdt_law.proofs.Numbers.{along}
 use Rattle.cdt_law.proofs.Overlaps.{not-left-is}
 use Rattle.cdt_law.proofs.GoneFacets.{some-facet, facet-among, gone-in, GoneOn}
 use Rattle.cdt_law.proofs.FacetEdges.{edge-in, facet-counts}
@@ -75,9 +76,6 @@ module _ (net other whole : Net) (sheet : IsSheet net) (sheet' : IsSheet other) 
 
   -- ---- the piece
   module _ (p q : Coords) (piece : 0 < net.count p q) (differ : net.count p q ≡ other.count p q → ⊥) where
-    along : (m n : ℕ) → m ≡ n → 0 < m → 0 < n
-    along m n e h = omega (arith, e, h)
-
     there : Owner net.triangles (At p) (At q)
     there = owner net (At p) (At q) (sheet.pieces p q piece)
 

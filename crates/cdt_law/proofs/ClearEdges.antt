@@ -11,7 +11,6 @@ use Rattle.predicates.specs.Sheet.{IsSheet}
 use Rattle.predicates.proofs.Tiling.{left-of}
 use Rattle.predicates.proofs.Owners.{Owner, owner, turn-side}
 use Rattle.predicates.proofs.Signs.{never-level}
-use Rattle.predicates.proofs.FlatSides.{flat_ab}
 use Rattle.cdt_law.proofs.GoodInSheet.{sheet-only}
 use Rattle.cdt_law.proofs.ThinnerSites.{Amid, amid-within, collinear}
 use Rattle.cdt_law.proofs.LongerPieces.{Inside, not-first, not-last, amid, amid-back}
@@ -22,10 +21,6 @@ module _ (net : Net) (sheet : IsSheet net) (p q : Coords) (edge : 0 < times_in (
 
   left : pos 0 <ℤ corner_side (At p) (At q) o.third
   left = turn-side o.triangle (At p) (At q) o.third o.turn (left-of net sheet o.index o.triangle o.at)
-
-  -- the ends of an edge differ
-  pub ends-differ : p ≡ q → ⊥
-  ends-differ e = never-level (corner_side (At p) (At q) o.third) left (flat_ab p q (corner_at o.third) e)
 
   pub none-amid : (r : Coords) → is_point net.points r ≡ true → Amid p q r → (r ≡ p → ⊥) → (r ≡ q → ⊥) → ⊥
   none-amid r at_r h no_p no_q = by (sheet-only net sheet o.index o.triangle (At p) (At q) o.third o.at o.turn r at_r within.0 within.1.0 within.1.1)

@@ -33,6 +33,8 @@ pub mod IllegalEdge
 pub mod FlipLaws
 pub mod Patched
 pub mod Reordered
+-- counts
+pub mod Numbers
 -- a point more or less
 pub mod ThinnerSites
 pub mod NearestPoint

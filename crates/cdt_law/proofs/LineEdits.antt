@@ -6,6 +6,7 @@ use Rattle.ground_model.specs.Line.{Line, is_point}
 use Rattle.ground_model.specs.Crossings.{is_on_points}
 use Rattle.ground_model.proofs.LinePieces.{IsPiece}
 use Rattle.predicates.specs.Net.{Net, times_in, edges_in}
+use Rattle.cdt_law.proofs.Numbers.{some-of, larger-first, larger-last, differs-from-last, last-left, same-last}
 use Rattle.cdt_law.proofs.GoneFacets.{GoneOn}
 use Rattle.cdt_law.proofs.KeptPieces.{piece_law}
 use Rattle.cdt_law.proofs.PieceParts.{IsClear}
@@ -17,13 +18,7 @@ module _ (base planned newest after : Net) (s : Standing base planned newest aft
   module _ (same_points : planned.points ≡ base.points) (same_after : after.points ≡ newest.points)
       (more : (p q : Coords) → planned.count p q ≡ runs_on base.points line p q + base.count p q) (more_after : (p q : Coords) → after.count p q ≡ runs_on newest.points line p q + newest.count p q) where
     made-run : (p q : Coords) → 0 < runs_on base.points line p q → GoneOn planned base (At p) (At q)
-    made-run p q some = made-on base planned newest after s p q (larger (planned.count p q) (runs_on base.points line p q) (base.count p q) (more p q) some) (differ (planned.count p q) (runs_on base.points line p q) (base.count p q) (more p q) some)
-      where
-        larger : (n k m : ℕ) → n ≡ k + m → 0 < k → 0 < n
-        larger n k m e h = omega (arith, e, h)
-
-        differ : (n k m : ℕ) → n ≡ k + m → 0 < k → n ≡ m → ⊥
-        differ n k m e h f = omega (arith, e, h, f)
+    made-run p q some = made-on base planned newest after s p q (larger-first (planned.count p q) (runs_on base.points line p q) (base.count p q) (more p q) some) (differs-from-last (planned.count p q) (runs_on base.points line p q) (base.count p q) (more p q) some)
 
     next-after : (p q : Coords) → GoneOn planned base (At p) (At q) → AreNext newest.points p q
     next-after p q g = subst (λ ps. AreNext ps p q) same_after (next-on (bare base planned newest after s) (bare_sheet base planned newest after s) p q (made-edge base planned newest after s (At p) (At q) g.third g.there))
@@ -45,14 +40,8 @@ module _ (base planned newest after : Net) (s : Standing base planned newest aft
     other-counts p q o = by (runs_on newest.points line p q) refl (more_after p q)
       where
         by : (k : ℕ) → runs_on newest.points line p q ≡ k → after.count p q ≡ runs_on newest.points line p q + newest.count p q → newest.count p q ≡ after.count p q
-        by zero e f = sum (newest.count p q) (after.count p q) (runs_on newest.points line p q) e f
-          where
-            sum : (n m k : ℕ) → k ≡ 0 → m ≡ k + n → n ≡ m
-            sum n m k e f = omega (arith, e, f)
-        by (suc k) e f = absurd (not-made base planned newest after s (At p) (At q) (run-made p q (some (runs_on newest.points line p q) k e)) o)
-          where
-            some : (m k : ℕ) → m ≡ suc k → 0 < m
-            some m k e = omega (arith, e)
+        by zero e f = sym (last-left (after.count p q) (runs_on newest.points line p q) (newest.count p q) f e)
+        by (suc k) e f = absurd (not-made base planned newest after s (At p) (At q) (run-made p q (some-of (runs_on newest.points line p q) k e)) o)
 
     pieces : (p q : Coords) → 0 < after.count p q → 0 < times_in (edges_in after) (At p, At q)
     pieces p q some = by (runs_on newest.points line p q) refl
@@ -73,10 +62,7 @@ module _ (base planned newest after : Net) (s : Standing base planned newest aft
           where
             left : (n k m : ℕ) → n ≡ k + m → k ≡ 0 → 0 < n → 0 < m
             left n k m e f h = omega (arith, e, f, h)
-        by (suc k) e = let g = run-made p q (more-than (runs_on newest.points line p q) k e) in made-edge base planned newest after s (At p) (At q) g.third g.there
-          where
-            more-than : (m k : ℕ) → m ≡ suc k → 0 < m
-            more-than m k e = omega (arith, e)
+        by (suc k) e = let g = run-made p q (some-of (runs_on newest.points line p q) k e) in made-edge base planned newest after s (At p) (At q) g.third g.there
 
     pub line-added : Counted base planned newest after s
     line-added = record { made = made-counts; others = other-counts; pieces = pieces; even = even }
@@ -85,13 +71,7 @@ module _ (base planned newest after : Net) (s : Standing base planned newest aft
   module _ (same_points : planned.points ≡ base.points) (same_after : after.points ≡ newest.points)
       (less : (p q : Coords) → base.count p q ≡ runs_on base.points line p q + planned.count p q) (less_after : (p q : Coords) → newest.count p q ≡ runs_on newest.points line p q + after.count p q) where
     destroyed-run : (p q : Coords) → 0 < runs_on base.points line p q → GoneOn base planned (At p) (At q)
-    destroyed-run p q some = destroyed-on base planned newest after s p q (larger (base.count p q) (runs_on base.points line p q) (planned.count p q) (less p q) some) (differ (base.count p q) (runs_on base.points line p q) (planned.count p q) (less p q) some)
-      where
-        larger : (n k m : ℕ) → n ≡ k + m → 0 < k → 0 < n
-        larger n k m e h = omega (arith, e, h)
-
-        differ : (n k m : ℕ) → n ≡ k + m → 0 < k → n ≡ m → ⊥
-        differ n k m e h f = omega (arith, e, h, f)
+    destroyed-run p q some = destroyed-on base planned newest after s p q (larger-first (base.count p q) (runs_on base.points line p q) (planned.count p q) (less p q) some) (differs-from-last (base.count p q) (runs_on base.points line p q) (planned.count p q) (less p q) some)
 
     next-newest : (p q : Coords) → GoneOn base planned (At p) (At q) → AreNext newest.points p q
     next-newest p q g = next-on newest s.newest_sheet p q (newest-edge base planned newest after s (At p) (At q) g.third g.there)
@@ -107,7 +87,7 @@ module _ (base planned newest after : Net) (s : Standing base planned newest aft
 
     made-left : (p q : Coords) → GoneOn planned base (At p) (At q) → planned.count p q ≡ after.count p q
     made-left p q g =
-        left (base.count p q) (newest.count p q) (runs_on base.points line p q) (runs_on newest.points line p q) (planned.count p q) (after.count p q) (less p q) (less_after p q)
+        same-last (base.count p q) (newest.count p q) (runs_on base.points line p q) (runs_on newest.points line p q) (planned.count p q) (after.count p q) (less p q) (less_after p q)
         (runs-same base.points newest.points line p q first last) (made_alike base planned newest after s (At p) (At q) g.third g.there)
       where
         first : AreNext base.points p q
@@ -116,30 +96,18 @@ module _ (base planned newest after : Net) (s : Standing base planned newest aft
         last : AreNext newest.points p q
         last = subst (λ ps. AreNext ps p q) same_after (next-on (bare base planned newest after s) (bare_sheet base planned newest after s) p q (made-edge base planned newest after s (At p) (At q) g.third g.there))
 
-        left : (b n k l m r : ℕ) → b ≡ k + m → n ≡ l + r → k ≡ l → b ≡ n → m ≡ r
-        left b n k l m r e f g h = omega (arith, e, f, g, h)
-
     other-left : (p q : Coords) → OtherOn base planned newest (At p) (At q) → newest.count p q ≡ after.count p q
     other-left p q o = by (runs_on newest.points line p q) refl (less_after p q)
       where
         by : (k : ℕ) → runs_on newest.points line p q ≡ k → newest.count p q ≡ runs_on newest.points line p q + after.count p q → newest.count p q ≡ after.count p q
-        by zero e f = sum (newest.count p q) (after.count p q) (runs_on newest.points line p q) e f
-          where
-            sum : (n m k : ℕ) → k ≡ 0 → n ≡ k + m → n ≡ m
-            sum n m k e f = omega (arith, e, f)
-        by (suc k) e f = absurd (not-gone base planned newest after s (At p) (At q) (run-destroyed p q (some (runs_on newest.points line p q) k e)) o)
-          where
-            some : (m k : ℕ) → m ≡ suc k → 0 < m
-            some m k e = omega (arith, e)
+        by zero e f = last-left (newest.count p q) (runs_on newest.points line p q) (after.count p q) f e
+        by (suc k) e f = absurd (not-gone base planned newest after s (At p) (At q) (run-destroyed p q (some-of (runs_on newest.points line p q) k e)) o)
 
     pieces-left : (p q : Coords) → 0 < after.count p q → 0 < times_in (edges_in after) (At p, At q)
     pieces-left p q some = by (parted base planned newest after s (At p) (At q) (s.newest_sheet.pieces p q piece))
       where
-        more : (n k m : ℕ) → n ≡ k + m → 0 < m → 0 < n
-        more n k m e h = omega (arith, e, h)
-
         piece : 0 < newest.count p q
-        piece = more (newest.count p q) (runs_on newest.points line p q) (after.count p q) (less_after p q) some
+        piece = larger-last (newest.count p q) (runs_on newest.points line p q) (after.count p q) (less_after p q) some
 
         left : (b n k l m r : ℕ) → b ≡ k + m → n ≡ l + r → k ≡ l → b ≡ n → 0 < r → 0 < m
         left b n k l m r e f g h i = omega (arith, e, f, g, h, i)

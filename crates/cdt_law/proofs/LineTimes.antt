@@ -1,5 +1,5 @@
 -- How often one line runs over an edge: as often over other points, where these have its pieces too.
-use Rattle.std.proofs.Common.{◌≡◌, ℕ, ◌<◌, ◌⊎◌, inl, inr, refl, ap, arith, List, Bool, true, false, cond}
+use Rattle.std.proofs.Common.{◌≡◌, ℕ, ◌<◌, refl, ap, arith, List, Bool, true, false, cond}
 use Rattle.std.specs.Prelude.{if◌then◌else◌}
 use Rattle.ground_model.specs.Place.{Coords, is_before}
 use Rattle.ground_model.specs.Line.{Line, is_point, has_piece}
@@ -49,14 +49,6 @@ some-once points line p q h = by (has_piece points line p q) (has_piece_from poi
     by : (t : Bool) → t ≡ true → 0 < cond t 1 0
     by true e = omega arith
     by false e = cc
-
--- a line that runs over an edge has a piece there, in one direction
-pub runs-piece : (points : List Coords) (line : Line) (p q : Coords) → 0 < runs_on points line p q → IsPiece points line p q ⊎ IsPiece points line q p
-runs-piece points line p q some = by (is_before p q) some
-  where
-    by : (t : Bool) → 0 < (if t then once_on points line p q else once_on points line q p) → IsPiece points line p q ⊎ IsPiece points line q p
-    by true h = inl (once-some points line p q h)
-    by false h = inr (once-some points line q p h)
 
 pub piece-runs : (points : List Coords) (line : Line) (p q : Coords) → IsPiece points line p q → 0 < runs_on points line p q
 piece-runs points line p q h = by (is_before p q) h.before

@@ -1,5 +1,5 @@
 -- The pieces of a content with a mesh cross nowhere: they are edges of a sheet.
-use Rattle.std.proofs.Common.{◌≡◌, ℕ, ◌+◌, ◌<◌, inl, inr, refl, sym, ap, subst, ◌∙◌, arith, List, [], ◌∷◌, Bool, true, false, cond, Some, None}
+use Rattle.std.proofs.Common.{◌≡◌, ℕ, ◌+◌, ◌<◌, inl, inr, refl, sym, ap, subst, ◌∙◌, List, [], ◌∷◌, Bool, true, false, cond, Some, None}
 use Rattle.std.specs.Prelude.{◌&&◌, find, option_map, nat_le, nat_lt}
 use Rattle.std.specs.List.{list_any, enumerate_from}
 use Rattle.ground_model.specs.declared.line.LineKind.{LineKind}
@@ -18,13 +18,11 @@ use Rattle.ground_model.proofs.LinePieces.{IsPiece, of_pieces}
 use Rattle.predicates.specs.Net.{Triangle, count_between, net_over}
 use Rattle.predicates.proofs.NeverCross.{never_cross}
 use Rattle.cdt_law.specs.Plans.{IsMesh}
+use Rattle.cdt_law.proofs.Numbers.{along, larger-first, larger-last}
 use Rattle.cdt_law.proofs.Counts.{both_ways, both-then}
 use Rattle.cdt_law.proofs.CountsWithout.{line-counts}
 use Rattle.cdt_law.proofs.LineTimes.{runs_on, piece-runs}
 use Rattle.cdt_law.proofs.TableCounts.{line-more}
-
-along : (m n : ℕ) → m ≡ n → 0 < m → 0 < n
-along m n e h = omega (arith, e, h)
 
 -- a search finds nothing where nothing passes
 pub find-none : {X : Type 0} (test : X → Bool) (xs : List X) → ((x : X) → In x xs → test x ≡ false) → find test xs ≡ None
@@ -87,18 +85,12 @@ module _ (c : Content) (planar : IsPlanar c) (kind : LineKind) (places : List Co
   line = record { kind = kind; places = places }
 
   new-piece : (p q : Coords) → IsPiece (points_of c) line p q → 0 < count_between (after c (AddLine kind places)) p q
-  new-piece p q h = more (count_between (after c (AddLine kind places)) p q) (runs_on (points_of c) line p q) (count_between c p q) (line-more c kind places planar p q) (piece-runs (points_of c) line p q h)
-    where
-      more : (n k r : ℕ) → n ≡ k + r → 0 < k → 0 < n
-      more n k r e h = omega (arith, e, h)
+  new-piece p q h = larger-first (count_between (after c (AddLine kind places)) p q) (runs_on (points_of c) line p q) (count_between c p q) (line-more c kind places planar p q) (piece-runs (points_of c) line p q h)
 
   old-piece : (other : Line) → In other (lines_of c) → (p q : Coords) → IsPiece (points_of c) other p q → 0 < count_between (after c (AddLine kind places)) p q
   old-piece other i p q h =
-      more (count_between (after c (AddLine kind places)) p q) (runs_on (points_of c) line p q) (count_between c p q) (line-more c kind places planar p q)
+      larger-last (count_between (after c (AddLine kind places)) p q) (runs_on (points_of c) line p q) (count_between c p q) (line-more c kind places planar p q)
       (along (count_on (points_of c) (lines_of c) p q) (both_ways (count_on (points_of c) (lines_of c)) p q) (sym (both-then (count_on (points_of c) (lines_of c)) p q h.before)) (line-counts (points_of c) (lines_of c) p q other i h))
-    where
-      more : (n k r : ℕ) → n ≡ k + r → 0 < r → 0 < n
-      more n k r e h = omega (arith, e, h)
 
   pub no-self-cross : self_cross (points_of c) line ≡ None
   unfolding self_cross

@@ -28,6 +28,7 @@ use Rattle.cdt_law.specs.Enclose.{HasGone}
 use Rattle.cdt_law.specs.Stale.{IsUnchanged}
 use Rattle.cdt_law.specs.EdgeCounts.{CountAlike}
 use Rattle.cdt_law.specs.Plans.{Plan, HasMeshes, Stands, base_net, planned_net, newest_net, is_met, is_on_hull, is_hull_plan}
+use Rattle.cdt_law.proofs.PointLaw.{or_none}
 use Rattle.cdt_law.proofs.SheetFacets.{same-facet, facet-same}
 use Rattle.cdt_law.proofs.FacetLaws.{facet_law}
 use Rattle.cdt_law.proofs.GoneFacets.{places-of, some-facet, facet-among, facet-there, Gone, gone-of}
@@ -42,11 +43,6 @@ pub in-among : (fs : List Facet) (f : Facet) → In f fs → is_among fs f ≡ t
 unfolding is_among
 in-among fs f i = any_from (is_same_facet f) fs f i (facet-same f f refl)
 
-or-none : (x y : Bool) → (x || y) ≡ false → (x ≡ false) × (y ≡ false)
-or-none false false e = (refl, refl)
-or-none true y e = cc
-or-none false true e = cc
-
 not-off : (x : Bool) → not x ≡ false → x ≡ true
 not-off true e = refl
 not-off false e = cc
@@ -60,8 +56,8 @@ record Inner (plan : Plan) : Type 0 where
 inner-of : (plan : Plan) → Stands plan → Inner plan
 unfolding is_hull_plan
 inner-of plan s =
-    let outer = or-none (nat_eq (length (planned_facets plan.base plan.edit)) 0 || list_any (is_on_hull (tri plan.base)) (destroyed plan.base plan.edit)) (list_any (is_on_hull (tri (after plan.base plan.edit))) (made plan.base plan.edit)) s.inner in
-    let first = or-none (nat_eq (length (planned_facets plan.base plan.edit)) 0) (list_any (is_on_hull (tri plan.base)) (destroyed plan.base plan.edit)) outer.0 in
+    let outer = or_none (nat_eq (length (planned_facets plan.base plan.edit)) 0 || list_any (is_on_hull (tri plan.base)) (destroyed plan.base plan.edit)) (list_any (is_on_hull (tri (after plan.base plan.edit))) (made plan.base plan.edit)) s.inner in
+    let first = or_none (nat_eq (length (planned_facets plan.base plan.edit)) 0) (list_any (is_on_hull (tri plan.base)) (destroyed plan.base plan.edit)) outer.0 in
     record { some = first.0; before = first.1; planned = outer.1 }
 
 -- an edge of a facet that is not on the hull has a triangle beyond it

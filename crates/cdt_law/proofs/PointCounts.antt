@@ -1,5 +1,5 @@
 -- Counts in both directions, with a point that no line has as a place and without it.
-use Rattle.std.proofs.Common.{◌≡◌, ℕ, zero, suc, ◌<◌, ◌⊎◌, inl, inr, refl, sym, ◌∙◌, arith, List, Bool, true, false}
+use Rattle.std.proofs.Common.{◌≡◌, ℕ, zero, suc, ◌<◌, ◌⊎◌, inl, inr, refl, sym, ◌∙◌, List, Bool, true, false}
 use Rattle.std.specs.Prelude.{not, ◌&&◌, if◌then◌else◌}
 use Rattle.std.proofs.lemmas.Bool.{and_parts, and_from, both_ways as clash}
 use Rattle.ground_model.specs.Place.{Coords, is_before, is_same}
@@ -11,6 +11,7 @@ use Rattle.ground_model.proofs.Elements.{In}
 use Rattle.ground_model.proofs.LinePieces.{is_point_in}
 use Rattle.ground_model.proofs.Along.{same_place}
 use Rattle.ground_model.proofs.Segments.{not_after, before_trans}
+use Rattle.cdt_law.proofs.Numbers.{along, some-of}
 use Rattle.cdt_law.proofs.Counts.{both_ways, both-then, both-else}
 use Rattle.cdt_law.proofs.LongerPieces.{Inside, from-before, to-after}
 use Rattle.cdt_law.proofs.CountsWithout.{of-line, line-counts, either-way, same-count}
@@ -28,11 +29,6 @@ inside-between u v x h = inl h
 pub inside-between-back : (u v x : Coords) → Inside v u x → Between u v x
 unfolding Between
 inside-between-back u v x h = inr h
-
-pub between-back : (u v x : Coords) → Between u v x → Between v u x
-unfolding Between
-between-back u v x (inl h) = inr h
-between-back u v x (inr h) = inl h
 
 pub next-clear : (points : List Coords) (u v x : Coords) → AreNext points u v → is_point points x ≡ true → Between u v x → ⊥
 unfolding Between
@@ -102,10 +98,7 @@ module _ (points : List Coords) (lines : List Line) where
     where
       by : (n : ℕ) → both_ways (count_on points lines) u v ≡ n → n ≡ 0
       by zero e = refl
-      by (suc n) e = absurd (counted-clear u v x at_x (some (both_ways (count_on points lines) u v) n e) b)
-        where
-          some : (m n : ℕ) → m ≡ suc n → 0 < m
-          some m n e = omega (arith, e)
+      by (suc n) e = absurd (counted-clear u v x at_x (some-of (both_ways (count_on points lines) u v) n e) b)
 
 -- there is one nearest point beyond c
 pub one-beyond : (points : List Coords) (x u w c : Coords) → AreNext points x w → AreNext points u w → Between x w c → Between u w c → x ≡ u
@@ -148,9 +141,6 @@ module _ (points rest : List Coords) (c : Coords) (without : (x : Coords) → is
     unfolding Between
     whole-of w some = by (either-way (count_on points lines) c w some)
       where
-        along : (m n : ℕ) → m ≡ n → 0 < m → 0 < n
-        along m n e h = omega (arith, e, h)
-
         by : (0 < count_on points lines c w) ⊎ (0 < count_on points lines w c) → Whole w
         by (inl h) =
             let o = of-line points lines c w h in

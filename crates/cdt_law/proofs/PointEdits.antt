@@ -1,5 +1,5 @@
 -- A point that is added: it parts pieces at a newer net, where its plan stands, as it does those of the base.
-use Rattle.std.proofs.Common.{◌≡◌, ℕ, zero, suc, ◌<◌, ◌⊎◌, inl, inr, refl, sym, ap, subst, ◌∙◌, arith, List, Bool, true, false}
+use Rattle.std.proofs.Common.{◌≡◌, ℕ, zero, suc, ◌<◌, ◌⊎◌, inl, inr, refl, sym, ap, subst, ◌∙◌, List, Bool, true, false}
 use Rattle.std.specs.Prelude.{not, ◌&&◌}
 use Rattle.std.proofs.lemmas.Bool.{both_ways as clash}
 use Rattle.ground_model.specs.declared.corner.Corner.TheVariants.{At}
@@ -11,6 +11,7 @@ use Rattle.ground_model.proofs.Elements.{In}
 use Rattle.predicates.specs.Net.{Net, Triangle, times_in, edges_in}
 use Rattle.ground_model.proofs.LinePieces.{is_same_itself}
 use Rattle.ground_model.proofs.Ties.{same_of_is_same}
+use Rattle.cdt_law.proofs.Numbers.{along, some-of, apart}
 use Rattle.cdt_law.proofs.Counts.{both_ways}
 use Rattle.cdt_law.proofs.GoneFacets.{GoneOn}
 use Rattle.cdt_law.proofs.KeptPieces.{piece_law}
@@ -27,19 +28,6 @@ net_by points lines triangles = record { points = points; count = both_ways (cou
 pub record IsLess (points rest : List Coords) (c : Coords) : Type 0 where
   pub without : (x : Coords) → is_point rest x ≡ (is_point points x && not (is_same c x))
   pub at_c : is_point points c ≡ true
-
-pub along : (m n : ℕ) → m ≡ n → 0 < m → 0 < n
-along m n e h = omega (arith, e, h)
-
-pub never-none : (n : ℕ) → n ≡ 0 → 0 < n → ⊥
-never-none n e h = omega (arith, e, h)
-
-pub some-of : (m k : ℕ) → m ≡ suc k → 0 < m
-some-of m k e = omega (arith, e)
-
--- where one is not 0 and the other is, they differ
-pub apart : (m n : ℕ) → 0 < m → n ≡ 0 → m ≡ n → ⊥
-apart m n h e f = omega (arith, h, e, f)
 
 -- no piece ends at a place that is no point
 pub none-at : (points : List Coords) (lines : List Line) (u v : Coords) → (is_point points u ≡ true → ⊥) → both_ways (count_on points lines) u v ≡ 0

@@ -56,7 +56,7 @@ module _ (more fewer : Site) (c : Coords) (thin : IsThinner more fewer c) (at_c 
 not-same : (p x : Coords) → is_same p x ≡ false → p ≡ x → ⊥
 not-same p x e f = clash (is_same p x) e (sym (ap (is_same p) f) ∙ is_same_itself p)
 
-or_none : (x y : Bool) → (x || y) ≡ false → (x ≡ false) × (y ≡ false)
+pub or_none : (x y : Bool) → (x || y) ≡ false → (x ≡ false) × (y ≡ false)
 or_none false false e = (refl, refl)
 or_none true y e = cc
 or_none false true e = cc
@@ -156,7 +156,7 @@ added-places m p z none places place = each_from IsPlace (finmap.keys (finmap.in
     by x true e at = subst IsPlace (same_of_is_same p x e) place
     by x false e at = each_at IsPlace (finmap.keys m) x places (in_points (finmap.keys m) x (added-points m p z none x ∙ and_from (is_point (finmap.keys (finmap.insert m p z)) x) (not (is_same p x)) at (not_from_false (is_same p x) e)))
 
-pub added-kept : (c : Content) (p : Coords) (z : ℤ) → IsJoined c → IsPlace p → is_point (points_of c) p ≡ false → (f : Facet) → is_among (tri (after c (AddPoint p z))) f ≡ true → is_corner_of p f ≡ false → is_facet_of c f ≡ true
+added-kept : (c : Content) (p : Coords) (z : ℤ) → IsJoined c → IsPlace p → is_point (points_of c) p ≡ false → (f : Facet) → is_among (tri (after c (AddPoint p z))) f ≡ true → is_corner_of p f ≡ false → is_facet_of c f ≡ true
 unfolding after
 added-kept c p z joined place none f e free =
     sym (is_among-tri c f) ∙ tri-test c f
@@ -184,7 +184,7 @@ removed-it m p = removed-points m p p ∙ ap (λ t. is_point (finmap.keys m) p &
     none true = refl
     none false = refl
 
-pub removed-kept : (c : Content) (p : Coords) → IsJoined c → is_point (points_of c) p ≡ true → All (λ line. has_place p line ≡ false) (lines_of c)
+removed-kept : (c : Content) (p : Coords) → IsJoined c → is_point (points_of c) p ≡ true → All (λ line. has_place p line ≡ false) (lines_of c)
     → (f : Facet) → is_among (tri c) f ≡ true → is_corner_of p f ≡ false → is_facet_of (after c (RemovePoint p)) f ≡ true
 unfolding after
 removed-kept c p joined at_p unused f e free =

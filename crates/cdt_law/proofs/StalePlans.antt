@@ -34,6 +34,7 @@ use Rattle.ground_model.proofs.Causes.{lawful_edit}
 use Rattle.predicates.specs.Net.{Triangle}
 use Rattle.cdt_law.specs.Plans.{Stands}
 use Rattle.cdt_law.specs.StalePlan.{Stale, IsFresh, StaleLaw, content_at, plan_at}
+use Rattle.cdt_law.proofs.PointLaw.{or_none}
 use Rattle.cdt_law.proofs.Able.{Able, able-of}
 use Rattle.cdt_law.proofs.PlanZone.{in-among}
 use Rattle.cdt_law.proofs.PlanLaw.{Apt, right-where-apt}
@@ -140,11 +141,6 @@ module _ (limits : Limits) (h : List Entry) (legal : IsLegal limits h) (base n :
           least k n h = omega (arith, h)
 
 -- ---- marks
-or-none : (x y : Bool) → (x || y) ≡ false → (x ≡ false) × (y ≡ false)
-or-none false false e = (refl, refl)
-or-none true y e = cc
-or-none false true e = cc
-
 -- the marks of an edit that can be made are there
 point-marks : (c : Content) (edit : Edit) → Able c edit → (m : Mark) → In m (planned_point edit) → is_there c m ≡ true
 point-marks c (AddPoint p z) able m i = absurd i
@@ -206,7 +202,7 @@ module _ (limits : Limits) (s : Stale) (f : IsFresh limits s) where
           subst (λ j. is_there (content_at s.history j) m ≡ true) (is-base s.pending.base (length s.history) k (not-less s.pending.base (length s.history) e) le most) (zone-there base_content s.pending.edit able-base m i)
       by true e none =
           let changed = none_found (has_changed s.history s.pending.base) (zone base_content s.pending.edit) m none i in
-          let parts = or-none (not (is_there (content_of s.history) m)) (nat_lt s.pending.base (born s.history m)) changed in
+          let parts = or_none (not (is_there (content_of s.history) m)) (nat_lt s.pending.base (born s.history m)) changed in
           there_between s.history m s.pending.base k (length s.history) le most (not-less s.pending.base (born s.history m) parts.1)
           (ap (λ h. is_there (content_of h) m) (take-length s.history) ∙ not-off (is_there (content_of s.history) m) parts.0)
 

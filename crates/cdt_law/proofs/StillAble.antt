@@ -28,6 +28,7 @@ use Rattle.cdt_law.specs.Corners.{IsCornerOfGone}
 use Rattle.cdt_law.specs.Plans.{Plan, HasMeshes, Stands, base_net, planned_net, newest_net}
 use Rattle.cdt_law.specs.StalePlan.{Stale, IsFresh, content_at, plan_at}
 use Rattle.cdt_law.specs.Limits.{HaveMeshes}
+use Rattle.cdt_law.proofs.Numbers.{larger-first}
 use Rattle.cdt_law.proofs.GoodInSheet.{over-first, sheet-only}
 use Rattle.cdt_law.proofs.GoneFacets.{GoneOn}
 use Rattle.cdt_law.proofs.SharedCorners.{Covered, covered-by}
@@ -148,13 +149,10 @@ module _ (limits : Limits) (h : List Entry) (b : ℕ) (before planned : List Tri
 
       never-run : (w : Coords) → 0 < runs_on (points_of (content_at h k)) line p w → ⊥
       never-run w some =
-          let counted = larger (count_between (content_at h (suc k)) p w) (runs_on (points_of (content_at h k)) line p w) (count_between (content_at h k) p w) (more w) some in
+          let counted = larger-first (count_between (content_at h (suc k)) p w) (runs_on (points_of (content_at h k)) line p w) (count_between (content_at h k) p w) (more w) some in
           let g = destroyed-there (suc k) later last-one w counted in
           clash-of (count_between (content_at h (suc k)) p w) (runs_on (points_of (content_at h k)) line p w) (count_between (content_at h k) p w) (count_between base p w) (more w) some (alike-at (suc k) later last-one w g) (alike-at k le most w g)
         where
-          larger : (n r k : ℕ) → n ≡ r + k → 0 < r → 0 < n
-          larger n r k e h = omega (arith, e, h)
-
           clash-of : (n r k c : ℕ) → n ≡ r + k → 0 < r → c ≡ n → c ≡ k → ⊥
           clash-of n r k c e h f g = omega (arith, e, h, f, g)
 

@@ -29,6 +29,7 @@ use Rattle.cdt_law.specs.Laws.{AreOverOne}
 use Rattle.cdt_law.specs.Plans.{Plan, HasMeshes, Stands, base_net, planned_net, newest_net}
 use Rattle.cdt_law.specs.StalePlan.{IsFresh, content_at, plan_at}
 use Rattle.cdt_law.specs.Limits.{HaveMeshes}
+use Rattle.cdt_law.proofs.Numbers.{along, larger-first, differs-from-last, last-left}
 use Rattle.cdt_law.proofs.FacetLaws.{unique_law}
 use Rattle.cdt_law.proofs.GoneFacets.{facet-among, gone-of, GoneOn}
 use Rattle.cdt_law.proofs.PointCounts.{both-even}
@@ -155,10 +156,7 @@ module _ (limits : Limits) (h : List Entry) (b : ℕ) (before planned : List Tri
         start = m (length h) f.within all
 
         same : ((p q : Coords) → runs_on (points_of base) its.0 p q ≡ 0) → AreOverOne (base_net (plan-of (length h))) (planned_net (plan-of (length h)))
-        same none = record { points = refl; count = λ p q. none-left (count_between base p q) (runs_on (points_of base) its.0 p q) (count_between (after base (RemoveLine id)) p q) (line-less base id its.0 its.1 p q) (none p q) }
-          where
-            none-left : (n r k : ℕ) → n ≡ r + k → r ≡ 0 → n ≡ k
-            none-left n r k e g = omega (arith, e, g)
+        same none = record { points = refl; count = λ p q. last-left (count_between base p q) (runs_on (points_of base) its.0 p q) (count_between (after base (RemoveLine id)) p q) (line-less base id its.0 its.1 p q) (none p q) }
 
         never : AreOverOne (base_net (plan-of (length h))) (planned_net (plan-of (length h))) → ⊥
         never over =
@@ -184,14 +182,8 @@ module _ (limits : Limits) (h : List Entry) (b : ℕ) (before planned : List Tri
     -- the piece is an edge of what is destroyed
     gone-there : (k : ℕ) → b ≤ k → k ≤ length h → GoneOn (base_net (plan-of k)) (planned_net (plan-of k)) (At p) (At q)
     gone-there k le most = standing.destroyed-on (base_net (plan-of k)) (planned_net (plan-of k)) (newest_net (plan-of k)) (after_net (plan-of k)) (taken-line-stands base (content_at h k) before planned (now k) id (m k le most) (stands-of k le most)) p q
-        (larger (count_between base p q) (runs_on (points_of base) its.0 p q) (count_between (after base (RemoveLine id)) p q) (line-less base id its.0 its.1 p q) runs)
-        (differ (count_between base p q) (runs_on (points_of base) its.0 p q) (count_between (after base (RemoveLine id)) p q) (line-less base id its.0 its.1 p q) runs)
-      where
-        larger : (n r k : ℕ) → n ≡ r + k → 0 < r → 0 < n
-        larger n r k e g = omega (arith, e, g)
-
-        differ : (n r k : ℕ) → n ≡ r + k → 0 < r → n ≡ k → ⊥
-        differ n r k e g f = omega (arith, e, g, f)
+        (larger-first (count_between base p q) (runs_on (points_of base) its.0 p q) (count_between (after base (RemoveLine id)) p q) (line-less base id its.0 its.1 p q) runs)
+        (differs-from-last (count_between base p q) (runs_on (points_of base) its.0 p q) (count_between (after base (RemoveLine id)) p q) (line-less base id its.0 its.1 p q) runs)
 
     alike-at : (k : ℕ) (le : b ≤ k) (most : k ≤ length h) → count_between base p q ≡ count_between (content_at h k) p q
     alike-at k le most = let g = gone-there k le most in alike (plan-of k) (m k le most) (stands-of k le most) refl (At p) (At q) g.third g.there
@@ -205,9 +197,6 @@ module _ (limits : Limits) (h : List Entry) (b : ℕ) (before planned : List Tri
         (runs-same (points_of base) (points_of (content_at h k)) its.0 p q
         (standing.next-on (base_net (plan-of k)) (m k le most).before.sheet p q (standing.base-edge (base_net (plan-of k)) (planned_net (plan-of k)) (newest_net (plan-of k)) (after_net (plan-of k)) st (At p) (At q) g.third g.there))
         (standing.next-on (newest_net (plan-of k)) (m k le most).now.sheet p q (standing.newest-edge (base_net (plan-of k)) (planned_net (plan-of k)) (newest_net (plan-of k)) (after_net (plan-of k)) st (At p) (At q) g.third g.there))) runs
-      where
-        along : (n k : ℕ) → n ≡ k → 0 < n → 0 < k
-        along n k e g = omega (arith, e, g)
 
     pub still-line : (k : ℕ) → b ≤ k → k ≤ length h → finmap.get (content_at h k).table.lines id.0 ≡ Some its.0
     still-line = from-base h b (λ k. finmap.get (content_at h k).table.lines id.0 ≡ Some its.0) its.1 next

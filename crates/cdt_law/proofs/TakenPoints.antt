@@ -12,12 +12,13 @@ use Rattle.predicates.proofs.Owners.{owner}
 use Rattle.predicates.proofs.HasTriangles.{owner-has}
 use Rattle.cdt_law.specs.Patch.{is_in}
 use Rattle.cdt_law.specs.Boundary.{gone}
+use Rattle.cdt_law.proofs.Numbers.{along, some-of, apart}
 use Rattle.cdt_law.proofs.GoneFacets.{GoneOn}
 use Rattle.cdt_law.proofs.KeptPieces.{piece_law}
 use Rattle.cdt_law.proofs.LineTimes.{AreNext}
 use Rattle.cdt_law.proofs.PointCounts.{Between, between-or-not, next-clear, both-even, counted-first, counted-clear, none-between-counted, inside-between, inside-between-back, one-beyond, same-beside, half, Whole, whole-of}
 use Rattle.cdt_law.proofs.Standing.{Standing, OtherOn, Counted, next-on, bare, bare_sheet, made_alike, made-edge, other-edge, planned-edge, stays-edge, parted, made-on, destroyed-on}
-use Rattle.cdt_law.proofs.PointEdits.{net_by, IsLess, along, some-of, apart, none-at, gone-end, differs}
+use Rattle.cdt_law.proofs.PointEdits.{net_by, IsLess, none-at, gone-end, differs}
 
 module _ (more fewer olds news : List Coords) (lines live : List Line) (tb tp tn ta : List Triangle) (c : Coords) (s : Standing (net_by more lines tb) (net_by fewer lines tp) (net_by olds live tn) (net_by news live ta))
     (on : (line : Line) → In line lines → is_on_points fewer line ≡ true) (on_live : (line : Line) → In line live → is_on_points news line ≡ true) (l : IsLess more fewer c) (l_live : IsLess olds news c)
