@@ -16,7 +16,7 @@ use Rattle.predicates.proofs.Owners.{IsTurn, Still, Once, Twice, turn-next}
 use Rattle.cdt_law.specs.Laws.{has_edge}
 use Rattle.cdt_law.specs.Enclose.{HasGone}
 use Rattle.cdt_law.proofs.Kept.{Kept, kept-of}
-use Rattle.cdt_law.proofs.SheetFacets.{same-facet}
+use Rattle.ground_model.proofs.Members.{same-facet}
 use Rattle.cdt_law.proofs.GoneFacets.{FirstTurn, first-turn, turn-in, gone-in}
 
 -- the first two corners of one turn are two that follow each other in another

@@ -19,7 +19,8 @@ use Rattle.predicates.proofs.Nudged.{Inside, center, center-pq, center-qr, cente
 use Rattle.predicates.proofs.FarTriangle.{packed}
 use Rattle.predicates.proofs.Owners.{IsTurn, turn-side, turn-inside}
 use Rattle.cdt_law.proofs.Kept.{kept-of}
-use Rattle.cdt_law.proofs.SheetFacets.{OfPlaces, of-places, TurnedFirst, turned-first, same-facet}
+use Rattle.ground_model.proofs.Members.{same-facet}
+use Rattle.cdt_law.proofs.SheetFacets.{OfPlaces, of-places, TurnedFirst, turned-first}
 use Rattle.predicates.proofs.Signs.{never-level, positive-along}
 use Rattle.predicates.proofs.FlatSides.{flat_ab, flat_bc, flat_ca}
 

@@ -21,7 +21,8 @@ use Rattle.predicates.proofs.FlatSides.{flat_ab, flat_bc, flat_ca}
 use Rattle.cdt_law.specs.Patch.{is_in, times_among}
 use Rattle.cdt_law.specs.Boundary.{is_missing, gone}
 use Rattle.cdt_law.proofs.Kept.{Kept, kept-of, kept-in}
-use Rattle.cdt_law.proofs.SheetFacets.{OfPlaces, of-places, TurnedFirst, turned-first, turn-facet, same-facet, facet-same}
+use Rattle.ground_model.proofs.Members.{same-facet, facet-itself}
+use Rattle.cdt_law.proofs.SheetFacets.{OfPlaces, of-places, TurnedFirst, turned-first, turn-facet}
 
 -- ---- triangles of a list
 abbrev listed : List Triangle → Net
@@ -135,7 +136,7 @@ places-of net t x y z f turn e = by x y z turn
 -- the net has the facets of its triangles
 pub facet-among : (net : Net) (k : ℕ) (t : Triangle) (f : Facet) → slice_get net.triangles k ≡ Some t → facet_by net t.a t.b t.c ≡ Some f → is_among (facets_of net) f ≡ true
 unfolding is_among
-facet-among net k t f at e = kept-in (λ t. facet_by net t.a t.b t.c) (is_same_facet f) net.triangles k t f at e (facet-same f f refl)
+facet-among net k t f at e = kept-in (λ t. facet_by net t.a t.b t.c) (is_same_facet f) net.triangles k t f at e (facet-itself f)
 
 -- ---- a facet of both sheets
 -- the net has the triangle, and its facet there is f

@@ -15,7 +15,7 @@ use Rattle.ground_model.specs.Zone.{zone, destroyed, made, shaken, planned_facet
 use Rattle.ground_model.specs.Answer.{is_there}
 use Rattle.ground_model.proofs.Elements.{In, any_gives, any_from, none_at, of_filter, in_filter, in_map, in_second, each_at}
 use Rattle.ground_model.proofs.LinePieces.{is_same_itself}
-use Rattle.ground_model.proofs.Members.{is_among-tri}
+use Rattle.ground_model.proofs.Members.{is_among-tri, same-facet, facet-itself}
 use Rattle.predicates.specs.Net.{Net, has, facets_of, count_of}
 use Rattle.predicates.specs.Sheet.{IsSheet}
 use Rattle.predicates.proofs.HasTriangles.{has-owner}
@@ -29,7 +29,6 @@ use Rattle.cdt_law.specs.Stale.{IsUnchanged}
 use Rattle.cdt_law.specs.EdgeCounts.{CountAlike}
 use Rattle.cdt_law.specs.Plans.{Plan, HasMeshes, Stands, base_net, planned_net, newest_net, is_met, is_on_hull, is_hull_plan}
 use Rattle.cdt_law.proofs.PointLaw.{or_none}
-use Rattle.cdt_law.proofs.SheetFacets.{same-facet, facet-same}
 use Rattle.cdt_law.proofs.FacetLaws.{facet_law}
 use Rattle.cdt_law.proofs.GoneFacets.{places-of, some-facet, facet-among, facet-there, Gone, gone-of}
 use Rattle.cdt_law.proofs.FacetEdges.{edge-in, edge-of, triangle-at, facet-counts, gone-facet}
@@ -41,7 +40,7 @@ among-in fs f e = let found = any_gives (is_same_facet f) fs e in subst (λ k. I
 
 pub in-among : (fs : List Facet) (f : Facet) → In f fs → is_among fs f ≡ true
 unfolding is_among
-in-among fs f i = any_from (is_same_facet f) fs f i (facet-same f f refl)
+in-among fs f i = any_from (is_same_facet f) fs f i (facet-itself f)
 
 not-off : (x : Bool) → not x ≡ false → x ≡ true
 not-off true e = refl
@@ -173,7 +172,7 @@ module _ (plan : Plan) (m : HasMeshes plan) (s : Stands plan) where
     gone-newest : (a b c : Corner) (g : Gone (base_net plan) (planned_net plan) a b c) → is_among (facets_of (newest_net plan)) g.facet ≡ true
     gone-newest a b c g =
         let e = facet-among (base_net plan) g.index g.triangle g.facet g.at g.is in
-        in-zone g.facet (shaken-by g.facet g.facet e (destroyed-in g.facet e g.none) (or_left (is_same_facet g.facet g.facet) (share_edge g.facet g.facet) (facet-same g.facet g.facet refl)))
+        in-zone g.facet (shaken-by g.facet g.facet e (destroyed-in g.facet e g.none) (or_left (is_same_facet g.facet g.facet) (share_edge g.facet g.facet) (facet-itself g.facet)))
 
     still : (a b c : Corner) → is_in (gone (base_net plan) (planned_net plan)) a b c ≡ true → has (newest_net plan) a b c ≡ true
     still a b c e =

@@ -21,12 +21,12 @@ use Rattle.ground_model.proofs.Elements.{In, both_true, any_gives, any_from, of_
 use Rattle.ground_model.proofs.LinePieces.{is_same_itself, in_points, is_point_in}
 use Rattle.ground_model.proofs.Ties.{same_of_is_same}
 use Rattle.ground_model.proofs.Contents.{places_total}
-use Rattle.ground_model.proofs.Members.{is_among-tri}
+use Rattle.ground_model.proofs.Members.{is_among-tri, same-facet}
 use Rattle.ground_model.proofs.Planar.{is_point-keys, same_test, still_on}
 use Rattle.cdt_law.specs.Point.{IsJoined, is_corner_of, PointLaw}
 use Rattle.cdt_law.proofs.Counts.{CountsPieces}
 use Rattle.cdt_law.proofs.GoodFacet.{site_by}
-use Rattle.cdt_law.proofs.SheetFacets.{IsFacetOf, same-facet, tested-of, tested-in}
+use Rattle.cdt_law.proofs.SheetFacets.{IsFacetOf, tested-of, tested-in}
 use Rattle.cdt_law.proofs.FacetLaws.{content-counts, tri-test}
 use Rattle.cdt_law.proofs.PiecesWithout.{other}
 use Rattle.cdt_law.proofs.CountsWithout.{same-both, thinner}

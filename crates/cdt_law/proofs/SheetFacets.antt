@@ -7,14 +7,13 @@ use Rattle.std.proofs.lemmas.Bool.{and_parts, and_from, and_left, and_right, eqb
 use Rattle.ground_model.specs.declared.corner.Corner.{Corner}
 use Rattle.ground_model.specs.declared.corner.Corner.TheVariants.{At, Far}
 use Rattle.ground_model.specs.declared.facet.Facet.{Facet}
-use Rattle.ground_model.specs.Place.{Coords, IsPlace, is_before, is_same}
+use Rattle.ground_model.specs.Place.{Coords, IsPlace, is_before}
 use Rattle.ground_model.specs.Side.{side}
 use Rattle.ground_model.specs.Line.{is_point}
 use Rattle.ground_model.specs.Table.{pieces_by}
 use Rattle.ground_model.specs.Mark.{is_same_facet, is_among}
 use Rattle.ground_model.specs.Tri.{is_facet, is_facet_over, has_counts, count_at}
-use Rattle.ground_model.proofs.Ties.{same_of_is_same}
-use Rattle.ground_model.proofs.LinePieces.{is_same_itself}
+use Rattle.ground_model.proofs.Members.{same-facet, facet-itself}
 use Rattle.ground_model.proofs.Segments.{not_after, before_trans}
 use Rattle.ground_model.proofs.Along.{same_place}
 use Rattle.predicates.specs.Net.{Net, Triangle, is_triangle, facet_on, facet_turned, facet_by, facets_of}
@@ -43,26 +42,8 @@ pub record IsFacetOf (s : Site) (f : Facet) : Type 0 where
 pub facets-equal : (f g : Facet) → f.a ≡ g.a → f.b ≡ g.b → f.c ≡ g.c → f.ab ≡ g.ab → f.bc ≡ g.bc → f.ca ≡ g.ca → f ≡ g
 facets-equal f g ea eb ec eab ebc eca = λ i. record { a = ea i; b = eb i; c = ec i; ab = eab i; bc = ebc i; ca = eca i }
 
-pub same-facet : (f g : Facet) → is_same_facet f g ≡ true → f ≡ g
-same-facet f g e =
-    let e5 = and_parts (is_same f.a g.a && is_same f.b g.b && is_same f.c g.c && nat_eq f.ab g.ab && nat_eq f.bc g.bc) (nat_eq f.ca g.ca) e in
-    let e4 = and_parts (is_same f.a g.a && is_same f.b g.b && is_same f.c g.c && nat_eq f.ab g.ab) (nat_eq f.bc g.bc) e5.0 in
-    let e3 = and_parts (is_same f.a g.a && is_same f.b g.b && is_same f.c g.c) (nat_eq f.ab g.ab) e4.0 in
-    let e2 = and_parts (is_same f.a g.a && is_same f.b g.b) (is_same f.c g.c) e3.0 in
-    let e1 = and_parts (is_same f.a g.a) (is_same f.b g.b) e2.0 in
-    facets-equal f g (same_of_is_same f.a g.a e1.0) (same_of_is_same f.b g.b e1.1) (same_of_is_same f.c g.c e2.1) (eqb-true f.ab g.ab e3.1) (eqb-true f.bc g.bc e4.1) (eqb-true f.ca g.ca e5.1)
-
-pub facet-same : (f g : Facet) → f ≡ g → is_same_facet f g ≡ true
-facet-same f g e = ap (is_same_facet f) (sym e) ∙ itself
-  where
-    itself : is_same_facet f f ≡ true
-    itself =
-        and_from (is_same f.a f.a && is_same f.b f.b && is_same f.c f.c && nat_eq f.ab f.ab && nat_eq f.bc f.bc) (nat_eq f.ca f.ca)
-        (and_from (is_same f.a f.a && is_same f.b f.b && is_same f.c f.c && nat_eq f.ab f.ab) (nat_eq f.bc f.bc)
-        (and_from (is_same f.a f.a && is_same f.b f.b && is_same f.c f.c) (nat_eq f.ab f.ab)
-        (and_from (is_same f.a f.a && is_same f.b f.b) (is_same f.c f.c)
-        (and_from (is_same f.a f.a) (is_same f.b f.b) (is_same_itself f.a) (is_same_itself f.b)) (is_same_itself f.c))
-        (eq-eqb f.ab f.ab refl)) (eq-eqb f.bc f.bc refl)) (eq-eqb f.ca f.ca refl)
+pub equal-passes : (f g : Facet) → f ≡ g → is_same_facet f g ≡ true
+equal-passes f g e = ap (is_same_facet f) (sym e) ∙ facet-itself f
 
 -- ---- a facet turned, so that its least corner is first
 pub record TurnedFirst (net : Net) (p q r : Coords) : Type 0 where
@@ -212,7 +193,7 @@ facet-in net sheet local f h = by (any-found (is_triangle (At f.a) (At f.b) (At 
     by k =
         kept-in (λ t. facet_by net t.a t.b t.c) (is_same_facet f) net.triangles k.index k.item (facet_on net f.a f.b f.c) k.at
         (turn-facet net k.item (At f.a) (At f.b) (At f.c) f.a f.b f.c (turn-of (At f.a) (At f.b) (At f.c) k.item k.passes) refl refl refl h.least)
-        (facet-same f (facet_on net f.a f.b f.c) (facets-equal f (facet_on net f.a f.b f.c) refl refl refl h.ab h.bc h.ca))
+        (equal-passes f (facet_on net f.a f.b f.c) (facets-equal f (facet_on net f.a f.b f.c) refl refl refl h.ab h.bc h.ca))
 
 -- ---- the facets by their test
 pub tested-of : (g : Coords → Coords → ℕ) (points : List Coords) → CountsPieces points g → All IsPlace points → (f : Facet) → is_facet_over points (pieces_by g points) f ≡ true → IsFacetOf (site_by g points) f
