@@ -7,7 +7,7 @@ use Rattle.std.specs.Option.{option_map, is_none}
 use Rattle.std.specs.List.{list_all, prefix_len}
 use Rattle.std.specs.Char.{digit_value}
 use Rattle.std.specs.Str.Parse.{AllDigits, IsNumeral, digits_value}
-use Rattle.ground_num.specs.Spelling.{Sign, Bare, Plus, Minus, Exponent, Decimal, IsDecimal, IsDecimalText, IsTooBig, decimal_text, sign_text, fraction_text, exponent_text, fraction_digits, digits_of, magnitude, thousandths, signed, IsTextOf, moved_right, moved_left, rounded, number_limit}
+use Rattle.ground_num.specs.Spelling.{Sign, Bare, Plus, Minus, Exponent, Decimal, IsDecimal, IsDecimalText, IsTooBig, decimal_text, sign_text, fraction_text, exponent_text, fraction_digits, digits_of, magnitude, signed, IsTextOf, moved_right, moved_left, rounded, number_limit}
 use Rattle.ground_num.specs.Reading.{is_digit}
 use Rattle.ground_num.specs.Parts.{is_minus, has_minus, after_sign, leading_digits, after_digits, pointed_digits, after_point}
 use Rattle.std.proofs.lemmas.List.Sums.{take_while-cons}

@@ -1,7 +1,7 @@
 -- What a document's events gather is its unit and its surfaces.
-use Rattle.std.proofs.Common.{◌≡◌, ℕ, ◌+◌, ◌-◌, Bool, true, false, List, [], ◌∷◌, ◌++◌, length, unwrap_or, Option, None, Some, refl, sym, ◌∙◌, ap, arith, append_assoc}
+use Rattle.std.proofs.Common.{◌≡◌, ℕ, ◌+◌, ◌-◌, true, false, List, [], ◌∷◌, ◌++◌, length, unwrap_or, Option, None, Some, refl, sym, ◌∙◌, ap, arith, append_assoc}
 use Rattle.std.proofs.lemmas.List.{append-nil}
-use Rattle.std.specs.List.{filter_map, cons_option}
+use Rattle.std.specs.List.{filter_map}
 use Rattle.ground_num.specs.declared.head.LinearUnit.{LinearUnit}
 use Rattle.landxml_read.specs.declared.gather.Gathered.{Gathered}
 use Rattle.landxml_read.specs.declared.kind.Kind.{Kind}
@@ -10,9 +10,9 @@ use Rattle.landxml_read.specs.Markup.{Content, Nothing, Byte, Comment, Instructi
 use Rattle.landxml_read.specs.Elements.{Found, below, elements, empty_found, whole_found}
 use Rattle.landxml_read.specs.Faults.{has_text, read_name, value_of, document_elements}
 use Rattle.landxml_read.specs.declared.raw.RawSurface.{RawSurface}
-use Rattle.landxml_read.specs.Lists.{inner, surface_of, surfaces_of, unit_in, unit_of, first_or_meter}
-use Rattle.landxml_read.specs.Events.{Opened, Closed, closing, Event, no_word, word_after, ended_by, ampersands, read, events, document_events}
-use Rattle.landxml_read.specs.Gather.{bare, nothing, first_unit, opened, closed, gathered, gather, gathered_of, unit_or_meter}
+use Rattle.landxml_read.specs.Lists.{surface_of, surfaces_of, unit_in, unit_of, first_or_meter}
+use Rattle.landxml_read.specs.Events.{Closed, closing, Event, no_word, word_after, ended_by, ampersands, read, events, document_events}
+use Rattle.landxml_read.specs.Gather.{bare, nothing, first_unit, opened, closed, gather, gathered_of, unit_or_meter}
 use Rattle.landxml_read.specs.Tokens.{pushed}
 use Rattle.landxml_read.proofs.ReadValues.{read_values}
 use Rattle.landxml_read.proofs.Nesting.{fits, fits_below, surface_below, holds_surfaces, fits_outside, outside_below, no_text_outside, nothing_made, filter_map_more}

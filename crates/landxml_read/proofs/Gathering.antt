@@ -11,7 +11,7 @@ use Rattle.landxml_read.specs.declared.gather.Numbers.TheVariants as numbers
 use Rattle.landxml_read.specs.declared.gather.Ids.TheVariants as ids
 use Rattle.landxml_read.specs.declared.kind.Kind.{Kind}
 use Rattle.landxml_read.specs.declared.kind.Kind.TheVariants.{Triples, Pairs, Point, Face, Skipped}
-use Rattle.landxml_read.specs.Markup.{StartTag, EndTag, Content, Nothing, Byte, Comment, Instruction, CData, Empty, Element, content_text, start_text, empty_text, end_text}
+use Rattle.landxml_read.specs.Markup.{StartTag, Content, Nothing, Byte, Comment, Instruction, CData, Empty, Element, content_text, start_text, empty_text, end_text}
 use Rattle.landxml_read.specs.Elements.{below}
 use Rattle.landxml_read.specs.Words.{Word}
 use Rattle.landxml_read.specs.Faults.{has_text}

@@ -1,7 +1,7 @@
 -- What the elements of a surface add to it, in the order of what they show.
-use Rattle.std.proofs.Common.{◌≡◌, ◌≤◌, ℕ, ◌+◌, ◌-◌, Bool, true, false, List, [], ◌∷◌, ◌++◌, length, map, flat_map, unwrap_or, Option, None, Some, refl, sym, ◌∙◌, ap, subst, arith, append_assoc}
+use Rattle.std.proofs.Common.{◌≡◌, ◌≤◌, ℕ, ◌+◌, ◌-◌, Bool, true, false, List, [], ◌∷◌, ◌++◌, length, flat_map, unwrap_or, Option, None, Some, refl, sym, ◌∙◌, ap, subst, arith}
 use Rattle.std.proofs.lemmas.List.{append-nil}
-use Rattle.std.specs.List.{filter_map, cons_option}
+use Rattle.std.specs.List.{filter_map}
 use Rattle.ground_num.specs.declared.head.LinearUnit.{LinearUnit}
 use Rattle.landxml_read.specs.declared.raw.RawKind.{RawKind}
 use Rattle.landxml_read.specs.declared.raw.RawKind.TheVariants as raw_kind
@@ -10,22 +10,21 @@ use Rattle.landxml_read.specs.declared.kind.Kind.{Kind}
 use Rattle.landxml_read.specs.declared.kind.Kind.TheVariants.{Outside, Root, Units, UnitOf, Surfaces, Surface, SourceData, Boundaries, Boundary, Breaklines, Breakline, DataPoints, Triples, Pairs, Definition, Points, Point, Faces, Face, Skipped}
 use Rattle.landxml_read.specs.Markup.{Content, Nothing, Byte, Comment, Instruction, CData, Empty, Element, content_text, start_text, empty_text, end_text}
 use Rattle.landxml_read.specs.Elements.{Found, below, elements, empty_found, whole_found}
-use Rattle.landxml_read.specs.Words.{Word, words, parts}
+use Rattle.landxml_read.specs.Words.{Word, words}
 use Rattle.landxml_read.specs.Faults.{has_text, read_name, value_of, parts_of}
 use Rattle.landxml_read.specs.declared.raw.RawLine.{RawLine}
 use Rattle.landxml_read.specs.declared.raw.RawId.{RawId}
-use Rattle.landxml_read.specs.declared.raw.RawFace.{RawFace}
 use Rattle.landxml_read.specs.declared.raw.RawSurface.{RawSurface}
 use Rattle.landxml_read.specs.Lists.{by_three, by_two, before, triples_of, pairs_of, vertices_of, line_of, ring_kind, faces_in}
-use Rattle.landxml_read.specs.Events.{Opened, Closed, opening, closing, empty_events, no_word, word_after, ended_by, ampersands, quotes, read, words_read, events}
+use Rattle.landxml_read.specs.Events.{Closed, closing, no_word, word_after, ended_by, ampersands, read, events}
 use Rattle.landxml_read.specs.Gather.{opened, with_vertices, closed, gather}
 use Rattle.landxml_read.proofs.ReadValues.{read_values}
 use Rattle.landxml_read.proofs.WordLists.{words_are}
 use Rattle.landxml_read.proofs.Nesting.{holds, fits, fits_below, line_below, no_text, nothing_made}
-use Rattle.landxml_read.proofs.Places.{upto, upto_later, upto_earlier, none_before, all_before, end_of, comment_end, instruction_end, cdata_end, empty_end, element_end, IsPart, narrowed, first_part, second_part, before_is}
+use Rattle.landxml_read.proofs.Places.{upto, upto_earlier, none_before, all_before, end_of, comment_end, instruction_end, cdata_end, empty_end, element_end, IsPart, narrowed, first_part, second_part}
 use Rattle.landxml_read.proofs.Gathering.{gather_more, reads, quotes_pass, value_in, text_read, at_rest, triple_vertices, pair_vertices, three_words, two_words, point_words, in_face, face_words, with_none}
 use Rattle.landxml_read.proofs.Placed.{within, IsPlaced, inner_part, triples_before, pairs_before}
-use Rattle.landxml_read.proofs.Effects.{Effect, no_effect, effect_of, joined, led_by, added, effected, effect_more, effected_joined, effected_nothing, skipped_effect, of_kind, no_line_in, IsCounted, counted_more, counted_on}
+use Rattle.landxml_read.proofs.Effects.{no_effect, effect_of, led_by, added, effected, effect_more, effected_joined, effected_nothing, skipped_effect, of_kind, no_line_in, IsCounted, counted_more, counted_on}
 
 -- the words of an element that begins at an offset
 abbrev words_at : Found → List Word

@@ -36,3 +36,5 @@ pub mod Growing
 pub mod Gathered
 pub mod ListsRead
 pub mod Quiet
+pub mod Plain
+pub mod Spelled

@@ -4,7 +4,6 @@ use Rattle.ground_num.specs.declared.head.LinearUnit.{LinearUnit}
 use Rattle.ground_num.specs.declared.head.LinearUnit.TheVariants.{Meter}
 use Rattle.landxml_read.specs.declared.raw.Triple.{Triple}
 use Rattle.landxml_read.specs.declared.raw.Pair2.{Pair2}
-use Rattle.landxml_read.specs.declared.raw.RawKind.{RawKind}
 use Rattle.landxml_read.specs.declared.raw.RawKind.TheVariants as kind
 use Rattle.landxml_read.specs.declared.raw.RawVertex.{RawVertex}
 use Rattle.landxml_read.specs.declared.raw.RawVertex.TheVariants as vertex
@@ -29,7 +28,7 @@ use Rattle.landxml_read.specs.declared.raw.RawFace.{RawFace}
 use Rattle.landxml_read.specs.declared.raw.RawLine.{RawLine}
 use Rattle.landxml_read.specs.declared.raw.RawSurface.{RawSurface}
 use Rattle.landxml_read.specs.Lists.{number, ring_kind, named_unit, unit_of, surfaces_of}
-use Rattle.landxml_read.specs.Events.{Event, Opened, Read, Ampersand, Quoted, Closed, Opening, Closing}
+use Rattle.landxml_read.specs.Events.{Event, Opened, Read, Ampersand, Quoted, Closed}
 
 -- nothing
 abbrev pub nothing : Gathered

@@ -11,6 +11,7 @@ pub mod Utf8
 pub mod Outline
 pub mod Events
 pub mod Gather
+pub mod Known
 pub mod Tokens
 pub mod Decoding
 pub mod Verdict

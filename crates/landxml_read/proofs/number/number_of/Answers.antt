@@ -1,4 +1,4 @@
-use Rattle.std.proofs.Common.{◌∙◌, Err, Some, None, ap, sym}
+use Rattle.std.proofs.Common.{◌∙◌, Err, ap, sym}
 use Rattle.landxml_read.proofs.Decimals.{cause_not, cause_big, value_is}
 use Rattle.landxml_read.proofs.number.number_of.Goals as goal
 
