@@ -37,4 +37,6 @@ pub mod Gathered
 pub mod ListsRead
 pub mod Quiet
 pub mod Plain
+pub mod Rests
 pub mod Spelled
+pub mod Rooms
