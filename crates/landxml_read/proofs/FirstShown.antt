@@ -125,7 +125,7 @@ few_ended has b w = by (has && is_white b)
     by true = few_finished w
     by false = omega arith
 
-after_counted : (a : Act) (n b : ℕ) (t : Tokens) → AllCounted n t.stack → AllCounted (n + 1) (after a n b t).stack
+pub after_counted : (a : Act) (n b : ℕ) (t : Tokens) → AllCounted n t.stack → AllCounted (n + 1) (after a n b t).stack
 after_counted Pass n b t h = later n t.stack h
 after_counted Letter n b t h = one_more n (length (ended_by (has_text (kind_in t.stack)) b (word_of t))) t.stack (few_ended (has_text (kind_in t.stack)) b (word_of t)) h
 after_counted Less n b t h = one_more n (length (finished (word_of t))) t.stack (few_finished (word_of t)) h

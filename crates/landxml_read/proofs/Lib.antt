@@ -40,3 +40,4 @@ pub mod Plain
 pub mod Rests
 pub mod Spelled
 pub mod Rooms
+pub mod Knowing

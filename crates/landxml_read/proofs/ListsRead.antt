@@ -7,7 +7,7 @@ use Rattle.landxml_read.specs.Answer.{IsTreeOf}
 use Rattle.landxml_read.specs.Events.{Event, document_events}
 use Rattle.landxml_read.specs.Tokens.{Reading, reads, at_start, pushed}
 use Rattle.landxml_read.specs.Gather.{gathered_of, unit_or_meter, IsGatheredOf}
-use Rattle.landxml_read.specs.Reader.{Reads}
+use Rattle.landxml_read.specs.Course.{Reads}
 use Rattle.landxml_read.proofs.Accepted.{document_read}
 use Rattle.landxml_read.proofs.Gathered.{unit_told, surfaces_told}
 

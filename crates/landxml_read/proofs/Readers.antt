@@ -1,5 +1,5 @@
 -- A reader after one more byte.
-use Rattle.std.proofs.Common.{◌≡◌, ℕ, ◌+◌, ◌<◌, ◌^◌, true, List, [], ◌∷◌, ◌++◌, length, take, drop, get_or, flat_map, Option, None, Some, refl, sym, ◌∙◌, ap, subst, arith, append_assoc, length-append}
+use Rattle.std.proofs.Common.{◌≡◌, ℕ, ◌+◌, ◌<◌, true, List, [], ◌∷◌, ◌++◌, length, take, drop, get_or, flat_map, Option, None, Some, refl, sym, ◌∙◌, ap, subst, append_assoc, length-append}
 use Rattle.std.proofs.lemmas.List.{append-nil, take-append-drop}
 use Rattle.std.specs.Str.{IsUtf8}
 use Rattle.landxml_read.specs.Markup.{Document, IsDocumentText}
@@ -8,14 +8,19 @@ use Rattle.landxml_read.specs.declared.tokens.Tokens.{Tokens}
 use Rattle.landxml_read.specs.declared.fault.DocFault.{DocFault}
 use Rattle.landxml_read.specs.Faults.{Fault, fault}
 use Rattle.landxml_read.specs.Answer.{IsFaultOf, IsTreeOf}
-use Rattle.landxml_read.specs.Events.{event_faults}
+use Rattle.landxml_read.specs.Events.{Event, event_faults}
 use Rattle.landxml_read.specs.Scan.{next, run, start}
 use Rattle.landxml_read.specs.Outline.{StandsAt, IsShownAt}
-use Rattle.landxml_read.specs.Tokens.{Reading, act, after, shown, words_in, on, led, reads, at_start}
+use Rattle.landxml_read.specs.Tokens.{Reading, act, after, shown, on, led, reads, at_start, no_tokens, pushed}
 use Rattle.landxml_read.specs.Verdict.{first_of, verdict_of}
 use Rattle.landxml_read.specs.declared.fault.ReadFault.{ReadFault}
 use Rattle.landxml_read.specs.declared.fault.ReadFault.TheVariants.{Doc, Memory}
-use Rattle.landxml_read.specs.Reader.{Reads, IsShown, IsEnd, HasReadBy, IsEndOf}
+use Rattle.landxml_read.specs.declared.course.Course.{Course}
+use Rattle.landxml_read.specs.declared.gather.Gathered.{Gathered}
+use Rattle.landxml_read.specs.declared.scan.Scan.{Scan}
+use Rattle.landxml_read.specs.Gather.{nothing, gathered_of, gather}
+use Rattle.landxml_read.specs.Course.{Reads, HasTaken, IsShown, IsEnd}
+use Rattle.landxml_read.specs.Reader.{HasReadBy, IsEndOf}
 use Rattle.landxml_read.proofs.Scanning.{run_more}
 use Rattle.landxml_read.proofs.Encoded.{utf8_begun}
 use Rattle.landxml_read.proofs.Running.{reads_more}
@@ -23,7 +28,7 @@ use Rattle.landxml_read.proofs.Totals.{total, total_flat}
 use Rattle.landxml_read.proofs.FaultTests.{all_none}
 use Rattle.landxml_read.proofs.Faulted.{IsQuiet, outline_fault, tree_fault, quiet_on, whole_tree}
 use Rattle.landxml_read.proofs.Outlines.{piece_step}
-use Rattle.landxml_read.proofs.FirstShown.{verdict_is, counted_in, few_words}
+use Rattle.landxml_read.proofs.FirstShown.{verdict_is}
 
 -- the reading of a reader
 abbrev reading_of : (seen : List ℕ) (s : Standing) (t : Tokens) → Reads seen s t → Reading
@@ -31,10 +36,6 @@ reading_of seen s t r = record { scan = s.scan; offset = s.offset; tokens = t; t
 
 quiet_of : (seen : List ℕ) (s : Standing) (t : Tokens) (r : Reads seen s t) → IsQuiet (reading_of seen s t r)
 quiet_of seen s t r = sym (total_flat (λ f. true) event_faults r.told) ∙ ap (total (λ f. true)) r.quiet
-
--- the words of an element are fewer than its bytes
-pub words_fit : (seen : List ℕ) (s : Standing) (t : Tokens) → Reads seen s t → s.offset + 1 < 2 ^ 32 → words_in t.stack + 1 < 2 ^ 32
-words_fit seen s t r short = let c = few_words s.offset t.stack (counted_in seen at_start (reading_of seen s t r) tt r.reading) in omega (arith, c, short)
 
 -- the byte leads the scan on
 goes : (seen : List ℕ) (s n : Standing) (b : ℕ) → StandsAt seen s → StandsAt (seen ++ b ∷ []) n → next s.scan b ≡ Some n.scan
@@ -83,27 +84,56 @@ reads_on seen s n t u b r then_at v e =
     e' : after (act s.scan.part n.scan.part) s.offset b t ≡ u
     e' = sym e
 
+-- what the bytes showed is gathered
+
+gathered_pushed : (es told : List Event) → gathered_of (pushed es told) ≡ gather (gathered_of told) es
+gathered_pushed [] told = refl
+gathered_pushed (e ∷ es) told = gathered_pushed es (e ∷ told)
+
+-- at the beginning
+pub taken_at_start : (s : Standing) (t : Tokens) (g : Gathered) → StandsAt [] s → t ≡ no_tokens → g ≡ nothing → HasTaken [] (record { standing = s; tokens = t; gathered = g })
+taken_at_start s t g at e f = record {
+  read = record {
+    outline = at;
+    told = [];
+    reading = (λ i. Some (record { scan = some at.scan i; offset = sym at.offset i; tokens = sym e i; told = [] }));
+    quiet = refl;
+  };
+  gathered = f;
+}
+  where
+    some : {x y : Scan} → Some x ≡ Some y → x ≡ y
+    some k = cc
+
+-- after a byte that shows no fault
+pub taken_on : (seen : List ℕ) (c m : Course) (b : ℕ) → HasTaken seen c → StandsAt (seen ++ b ∷ []) m.standing → verdict_of (act c.standing.scan.part m.standing.scan.part) c.standing.offset b c.tokens ≡ None
+    → m.tokens ≡ after (act c.standing.scan.part m.standing.scan.part) c.standing.offset b c.tokens → m.gathered ≡ gather c.gathered (shown (act c.standing.scan.part m.standing.scan.part) c.standing.offset b c.tokens) → HasTaken (seen ++ b ∷ []) m
+unfolding reads_on
+taken_on seen c m b h then_at v e f =
+    let es = shown (act c.standing.scan.part m.standing.scan.part) c.standing.offset b c.tokens in
+    record { read = reads_on seen c.standing m.standing c.tokens m.tokens b h.read then_at v e; gathered = f ∙ ap (λ g. gather g es) h.gathered ∙ sym (gathered_pushed es h.read.told) }
+
 -- what ended a reading ends it whatever comes after
 
 pub end_longer : (seen rest : List ℕ) (e : ReadFault) → IsEnd seen e → IsEnd (seen ++ rest) e
 end_longer seen rest (Doc f) h = λ more. let P : List ℕ → Type 0 = λ w. IsShown w f in subst P (sym (append_assoc seen rest more)) (h (rest ++ more))
 end_longer seen rest Memory h = tt
 
-pub read_longer : (seen rest : List ℕ) (s : Standing) (t : Tokens) (e : ReadFault) (o : Option ReadFault) → o ≡ Some e → HasReadBy seen s t o → HasReadBy (seen ++ rest) s t o
-read_longer seen rest s t e None is h = cc
-read_longer seen rest s t e (Some x) is h = end_longer seen rest x h
+pub read_longer : (seen rest : List ℕ) (c : Course) (e : ReadFault) (o : Option ReadFault) → o ≡ Some e → HasReadBy seen c o → HasReadBy (seen ++ rest) c o
+read_longer seen rest c e None is h = cc
+read_longer seen rest c e (Some x) is h = end_longer seen rest x h
 
-pub ended_of : (seen : List ℕ) (s : Standing) (t : Tokens) (e : ReadFault) (o : Option ReadFault) → o ≡ Some e → HasReadBy seen s t o → IsEndOf seen e
-ended_of seen s t e None is h = cc
-ended_of seen s t e (Some x) is h = let same : x ≡ e = cc in let P : ReadFault → Type 0 = IsEndOf seen in subst P same (by x h)
+pub ended_of : (seen : List ℕ) (c : Course) (e : ReadFault) (o : Option ReadFault) → o ≡ Some e → HasReadBy seen c o → IsEndOf seen e
+ended_of seen c e None is h = cc
+ended_of seen c e (Some x) is h = let same : x ≡ e = cc in let P : ReadFault → Type 0 = IsEndOf seen in subst P same (by x h)
   where
     by : (x : ReadFault) → IsEnd seen x → IsEndOf seen x
     by (Doc f) h = let P : List ℕ → Type 0 = λ w. IsShown w f in subst P (append-nil seen) (h [])
     by Memory h = tt
 
-pub standing_of : (seen : List ℕ) (s : Standing) (t : Tokens) (o : Option ReadFault) → o ≡ None → HasReadBy seen s t o → Reads seen s t
-standing_of seen s t None is h = h
-standing_of seen s t (Some x) is h = cc
+pub taken_of : (seen : List ℕ) (c : Course) (o : Option ReadFault) → o ≡ None → HasReadBy seen c o → HasTaken seen c
+taken_of seen c None is h = h
+taken_of seen c (Some x) is h = cc
 
 -- at the end of the bytes
 

@@ -1,6 +1,6 @@
 -- What is true of a reader whatever it has read: its open word and its values are UTF-8 up to where they stand, and its lists have room.
-use Rattle.std.specs.Prelude.{◌≡◌, ◌≤◌, ℕ, Bool, true, false, ◌&&◌, nat_lt, List, [], length, Option, None, Some}
-use Rattle.std.specs.List.{list_any}
+use Rattle.std.specs.Prelude.{◌≡◌, ◌+◌, ◌≤◌, ℕ, Bool, true, false, ◌&&◌, nat_lt, List, [], length, Option, None, Some}
+use Rattle.std.specs.List.{list_any, list_all}
 use Rattle.ground_num.specs.Names.{is_control}
 use Rattle.landxml_read.specs.declared.utf8.Utf8.{Utf8}
 use Rattle.landxml_read.specs.declared.utf8.Utf8.TheVariants.{Ready, One, Two}
@@ -8,6 +8,7 @@ use Rattle.landxml_read.specs.declared.scan.Part.{Part}
 use Rattle.landxml_read.specs.declared.scan.Part.TheVariants.{Start, MarkFirst, MarkSecond, Text, Tag}
 use Rattle.landxml_read.specs.declared.tag.TagPart.TheVariants.{DoubleQuoted, SingleQuoted}
 use Rattle.landxml_read.specs.declared.standing.Standing.{Standing}
+use Rattle.landxml_read.specs.declared.element.Element.{Element}
 use Rattle.landxml_read.specs.declared.tokens.Tokens.{Tokens}
 use Rattle.landxml_read.specs.declared.gather.Gathered.{Gathered}
 use Rattle.landxml_read.specs.Faults.{has_text}
@@ -57,6 +58,10 @@ pub record IsSpelled (s : Utf8) (part : Part) (t : Tokens) : Type 0 where
   pub plain_value : IsPlain t.value
   pub first : (text : List ℕ) → t.values.first ≡ Some text → IsKept text t.values.is_long
 
+-- each open element has no more words than there were bytes
+abbrev pub has_few_words : ℕ → List Element → Bool
+has_few_words n es = list_all (λ e. nat_lt e.words (n + 1)) es
+
 -- the open surface has no more triples and pairs than there were bytes
 pub record HasFew (n : ℕ) (g : Gathered) : Type 0 where
   pub triples : length (triples_in g.surface) ≤ n
@@ -65,4 +70,5 @@ pub record HasFew (n : ℕ) (g : Gathered) : Type 0 where
 -- what is true of a reader's parts
 pub record IsKnown (s : Standing) (t : Tokens) (g : Gathered) : Type 0 where
   pub spelled : IsSpelled s.utf8 s.scan.part t
+  pub words : has_few_words s.offset t.stack ≡ true
   pub few : HasFew s.offset g

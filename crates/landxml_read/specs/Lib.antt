@@ -12,6 +12,7 @@ pub mod Outline
 pub mod Events
 pub mod Gather
 pub mod Known
+pub mod Course
 pub mod Tokens
 pub mod Decoding
 pub mod Verdict

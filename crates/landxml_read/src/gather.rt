@@ -3,10 +3,10 @@
 ghost use Rattle.std.specs.Prelude.{◌≡◌, IfOk};
 ghost use Rattle.ground_num.specs.Names.{IsName};
 ghost use Rattle.landxml_read.specs.Lists.{named_unit, ring_kind};
-ghost use Rattle.landxml_read.specs.Gather.{nothing, bare};
+ghost use Rattle.landxml_read.specs.Gather.{nothing, bare, unit_or_meter};
 
 use crate::list::RawList;
-use crate::raw::{RawKind, RawLine, RawSurface, RawSurfaces};
+use crate::raw::{RawDoc, RawKind, RawLine, RawSurface, RawSurfaces};
 use ground_num::{LinearUnit, Name, NameFault, Thousandths};
 use std::alloc::{AllocError, Global};
 
@@ -112,6 +112,16 @@ impl Gathered {
             face_at: 0,
             numbers: Numbers::Zero,
             ids: Ids::Zero,
+        }
+    }
+    /// What a document holds, at its end. Takes no memory.
+    pub(crate) fn into_doc(self) -> RawDoc
+        ensures unit { result.unit ≡ unit_or_meter self.unit }
+        ensures surfaces { result.surfaces ≡ self.surfaces }
+    {
+        RawDoc {
+            unit: self.unit.unwrap_or(LinearUnit::Meter),
+            surfaces: self.surfaces,
         }
     }
 }

@@ -6,6 +6,7 @@ mod act;
 mod buffer;
 mod byte;
 mod collect;
+mod course;
 mod decode;
 mod element;
 mod fault;

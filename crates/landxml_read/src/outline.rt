@@ -1,8 +1,9 @@
 //! The encoding and the markup of a document, whatever its elements mean.
 
-ghost use Rattle.std.specs.Prelude.{◌≡◌, ◌+◌, ◌<◌, ◌^◌, ◌≤◌, ◌++◌, ◌∷◌, [], ℕ, List, length, MatchResult, IfErr, IfOk, OnOk, IsUtf8, if◌then◌else◌};
+ghost use Rattle.std.specs.Prelude.{◌≡◌, ◌+◌, ◌<◌, ◌^◌, ◌≤◌, ◌++◌, ◌∷◌, [], ℕ, List, length, MatchResult, IfErr, IfOk, OnOk, IsUtf8, Some, if◌then◌else◌};
 ghost use Rattle.landxml_read.specs.Markup.{IsDocumentText};
-ghost use Rattle.landxml_read.specs.Utf8.{is_ready};
+ghost use Rattle.landxml_read.specs.Utf8.{is_ready, utf8_next};
+ghost use Rattle.landxml_read.specs.Scan.{next};
 ghost use Rattle.landxml_read.specs.Outline.{StandsAt, IsShownAt, IsStrayFault};
 
 use crate::fault::{DocCause, DocFault};
@@ -63,6 +64,8 @@ impl Standing {
             (λ now. StandsAt (seen ++ b ∷ []) now)
             (λ f. (more : List ℕ) → IsShownAt (length seen) (seen ++ b ∷ more) f) }
         ensures offset { IfOk result (λ now. now.offset ≡ self.offset + 1) }
+        ensures utf8 { IfOk result (λ now. utf8_next self.utf8 b ≡ Some now.utf8) }
+        ensures scan { IfOk result (λ now. next self.scan b ≡ Some now.scan) }
     {
         let Some(utf8) = self.utf8.after(b) else {
             return Err(DocFault {
