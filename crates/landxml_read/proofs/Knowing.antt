@@ -35,9 +35,9 @@ words_fit s t g k short = by t.stack (counted_all s.offset t.stack k.words)
 pub room : (s : Standing) (t : Tokens) (g : Gathered) → IsKnown s t g → s.offset + 1 < 2 ^ 32 → HasRoom g
 room s t g k short = let a = k.few.triples in let b = k.few.pairs in record { triples = omega (arith, a, short); pairs = omega (arith, b, short) }
 
-pub known_on : (s n : Standing) (t u : Tokens) (g h : Gathered) (b : ℕ) → IsKnown s t g → utf8_next s.utf8 b ≡ Some n.utf8 → next s.scan b ≡ Some n.scan → n.offset ≡ s.offset + 1
+pub known_on : (s n : Standing) (t u : Tokens) (g h : Gathered) (b : ℕ) → IsKnown s t g → s.offset + 1 < 2 ^ 32 → utf8_next s.utf8 b ≡ Some n.utf8 → next s.scan b ≡ Some n.scan → n.offset ≡ s.offset + 1
     → u ≡ after (act s.scan.part n.scan.part) s.offset b t → h ≡ gather g (shown (act s.scan.part n.scan.part) s.offset b t) → IsKnown n u h
-known_on s n t u g h b k utf8 scan offset e f =
+known_on s n t u g h b k short utf8 scan offset e f =
     let a = act s.scan.part n.scan.part in
     let P : Tokens → Type 0 = IsSpelled n.utf8 n.scan.part in
     let Q : ℕ → Type 0 = λ i. has_few_words i u.stack ≡ true in
@@ -45,6 +45,7 @@ known_on s n t u g h b k utf8 scan offset e f =
     let S : Gathered → Type 0 = HasFew (s.offset + 1) in
     let words : has_few_words (s.offset + 1) u.stack ≡ true = ap (λ x. has_few_words (s.offset + 1) x.stack) e ∙ all_counted (s.offset + 1) (after a s.offset b t).stack (after_counted a s.offset b t (counted_all s.offset t.stack k.words)) in
     record {
+      short = omega (arith, offset, short);
       spelled = subst P (sym e) (spelled_on s.utf8 n.utf8 s.scan n.scan s.offset b t utf8 scan k.spelled);
       words = subst Q (sym offset) words;
       few = subst R (sym offset) (subst S (sym f) (few_on a s.offset b t g k.few));

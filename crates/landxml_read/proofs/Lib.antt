@@ -41,3 +41,7 @@ pub mod Rests
 pub mod Spelled
 pub mod Rooms
 pub mod Knowing
+pub mod Each
+pub mod Laws
+pub mod Sizes
+pub mod Obeyed

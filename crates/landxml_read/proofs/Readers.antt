@@ -1,5 +1,5 @@
 -- A reader after one more byte.
-use Rattle.std.proofs.Common.{◌≡◌, ℕ, ◌+◌, ◌<◌, true, List, [], ◌∷◌, ◌++◌, length, take, drop, get_or, flat_map, Option, None, Some, refl, sym, ◌∙◌, ap, subst, append_assoc, length-append}
+use Rattle.std.proofs.Common.{◌≡◌, ℕ, ◌+◌, ◌<◌, ◌^◌, true, List, [], ◌∷◌, ◌++◌, length, take, drop, get_or, flat_map, Option, None, Some, refl, sym, ◌∙◌, ap, subst, append_assoc, length-append}
 use Rattle.std.proofs.lemmas.List.{append-nil, take-append-drop}
 use Rattle.std.specs.Str.{IsUtf8}
 use Rattle.landxml_read.specs.Markup.{Document, IsDocumentText}
@@ -18,9 +18,11 @@ use Rattle.landxml_read.specs.declared.fault.ReadFault.TheVariants.{Doc, Memory}
 use Rattle.landxml_read.specs.declared.course.Course.{Course}
 use Rattle.landxml_read.specs.declared.gather.Gathered.{Gathered}
 use Rattle.landxml_read.specs.declared.scan.Scan.{Scan}
-use Rattle.landxml_read.specs.Gather.{nothing, gathered_of, gather}
+use Rattle.landxml_read.specs.Gather.{nothing, gathered_of, gather, unit_or_meter}
+use Rattle.landxml_read.specs.declared.raw.RawDoc.{RawDoc}
+use Rattle.landxml_read.specs.Lawful.{IsLawful}
 use Rattle.landxml_read.specs.Course.{Reads, HasTaken, IsShown, IsEnd}
-use Rattle.landxml_read.specs.Reader.{HasReadBy, IsEndOf}
+use Rattle.landxml_read.specs.Reader.{HasReadBy, IsRead, IsEndOf}
 use Rattle.landxml_read.proofs.Scanning.{run_more}
 use Rattle.landxml_read.proofs.Encoded.{utf8_begun}
 use Rattle.landxml_read.proofs.Running.{reads_more}
@@ -28,6 +30,8 @@ use Rattle.landxml_read.proofs.Totals.{total, total_flat}
 use Rattle.landxml_read.proofs.FaultTests.{all_none}
 use Rattle.landxml_read.proofs.Faulted.{IsQuiet, outline_fault, tree_fault, quiet_on, whole_tree}
 use Rattle.landxml_read.proofs.Outlines.{piece_step}
+use Rattle.landxml_read.proofs.ListsRead.{lists_at_end}
+use Rattle.landxml_read.proofs.Obeyed.{lawful_doc}
 use Rattle.landxml_read.proofs.FirstShown.{verdict_is}
 
 -- the reading of a reader
@@ -145,6 +149,16 @@ fault_at_end seen s t f r h =
     let P : List ℕ → Type 0 = λ w. IsShown w f in
     let Q : List ℕ → Type 0 = λ w. IsShownAt (length seen) w f in
     subst P (append-nil seen) (outline_ends seen s t [] f r (subst Q (sym (append-nil seen)) h))
+
+-- what was gathered of a whole document
+pub read_at_end : (seen : List ℕ) (c : Course) (doc : RawDoc) → HasTaken seen c → IsUtf8 seen → IsDocumentText seen → doc.unit ≡ unit_or_meter c.gathered.unit → doc.surfaces ≡ c.gathered.surfaces → IsRead seen doc
+read_at_end seen c doc r utf8 text unit surfaces =
+    let tree = tree_at_end seen c.standing c.tokens r.read utf8 text in
+    let held = lists_at_end seen c.standing c.tokens r.read tree.0 tree.1 in
+    (tree.0, tree.1, record { unit = unit ∙ ap (λ g. unit_or_meter g.unit) r.gathered ∙ held.unit; surfaces = surfaces ∙ ap (λ g. g.surfaces) r.gathered ∙ held.surfaces })
+
+pub lawful_at_end : (seen : List ℕ) (doc : RawDoc) → IsRead seen doc → length seen < 2 ^ 32 → IsLawful doc
+lawful_at_end seen doc h short = lawful_doc seen h.0 doc h.1 h.2 short
 
 -- in a piece
 

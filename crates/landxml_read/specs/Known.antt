@@ -1,5 +1,5 @@
 -- What is true of a reader whatever it has read: its open word and its values are UTF-8 up to where they stand, and its lists have room.
-use Rattle.std.specs.Prelude.{◌≡◌, ◌+◌, ◌≤◌, ℕ, Bool, true, false, ◌&&◌, nat_lt, List, [], length, Option, None, Some}
+use Rattle.std.specs.Prelude.{◌≡◌, ◌+◌, ◌<◌, ◌≤◌, ◌^◌, ℕ, Bool, true, false, ◌&&◌, nat_lt, List, [], length, Option, None, Some}
 use Rattle.std.specs.List.{list_any, list_all}
 use Rattle.ground_num.specs.Names.{is_control}
 use Rattle.landxml_read.specs.declared.utf8.Utf8.{Utf8}
@@ -69,6 +69,7 @@ pub record HasFew (n : ℕ) (g : Gathered) : Type 0 where
 
 -- what is true of a reader's parts
 pub record IsKnown (s : Standing) (t : Tokens) (g : Gathered) : Type 0 where
+  pub short : s.offset < 2 ^ 32
   pub spelled : IsSpelled s.utf8 s.scan.part t
   pub words : has_few_words s.offset t.stack ≡ true
   pub few : HasFew s.offset g

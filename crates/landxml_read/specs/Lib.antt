@@ -5,6 +5,7 @@ pub mod Words
 pub mod Numbers
 pub mod Faults
 pub mod Lists
+pub mod Lawful
 pub mod Answer
 pub mod Scan
 pub mod Utf8

@@ -50,4 +50,4 @@ returns-in-Ok-take-clause-known c =
     let k = c.requires.known in
     let e = c.in-Ok-take.ensures.tokens (words_fit s t g k c.requires.short) ∙ ap (λ a. after a s.offset c.args.b t) c.between-act.ensures in
     let f = c.in-Ok-take.ensures.gathered (room s t g k c.requires.short) ∙ ap (λ a. gather g (shown a s.offset c.args.b t)) c.between-act.ensures in
-    known_on s c.in-Ok.next t c.take.new.self.tokens g c.take.new.self.gathered c.args.b k c.in-Ok.ensures.utf8 c.in-Ok.ensures.scan c.in-Ok.ensures.offset e f
+    known_on s c.in-Ok.next t c.take.new.self.tokens g c.take.new.self.gathered c.args.b k c.requires.short c.in-Ok.ensures.utf8 c.in-Ok.ensures.scan c.in-Ok.ensures.offset e f

@@ -1,7 +1,5 @@
-use Rattle.std.proofs.Common.{◌∙◌, ap}
-use Rattle.landxml_read.specs.Gather.{unit_or_meter}
-use Rattle.landxml_read.proofs.Readers.{ended_of, taken_of, tree_at_end, fault_at_end}
-use Rattle.landxml_read.proofs.ListsRead.{lists_at_end}
+use Rattle.std.proofs.Common.{arith}
+use Rattle.landxml_read.proofs.Readers.{ended_of, taken_of, read_at_end, lawful_at_end, fault_at_end}
 use Rattle.landxml_read.proofs.reader.Reader.finish.Goals as goal
 
 pub returns-in-Some-clause-fault : goal.returns-in-Some-clause-fault
@@ -11,15 +9,15 @@ pub returns-in-Ok-clause-whole : goal.returns-in-Ok-clause-whole
 returns-in-Ok-clause-whole c seen h =
     let r = taken_of seen c.args.self.course c.args.self.ended c.in-None.is h in
     let w = c.in-Ok.ensures.whole seen r.read.outline in
-    let tree = tree_at_end seen c.args.self.course.standing c.args.self.course.tokens r.read w.0 w.1 in
-    let held = lists_at_end seen c.args.self.course.standing c.args.self.course.tokens r.read tree.0 tree.1 in (
-      tree.0,
-      tree.1,
-      record {
-        unit = c.into_doc.ensures.unit ∙ ap (λ g. unit_or_meter g.unit) r.gathered ∙ held.unit;
-        surfaces = c.into_doc.ensures.surfaces ∙ ap (λ g. g.surfaces) r.gathered ∙ held.surfaces;
-      },
-    )
+    read_at_end seen c.args.self.course c.into_doc.result r w.0 w.1 c.into_doc.ensures.unit c.into_doc.ensures.surfaces
+
+pub returns-in-Ok-clause-lawful : goal.returns-in-Ok-clause-lawful
+returns-in-Ok-clause-lawful c seen h =
+    let r = taken_of seen c.args.self.course c.args.self.ended c.in-None.is h in
+    let w = c.in-Ok.ensures.whole seen r.read.outline in
+    let offset = r.read.outline.offset in
+    let short = (c.args.self.known c.in-None.is).short in
+    lawful_at_end seen c.into_doc.result (read_at_end seen c.args.self.course c.into_doc.result r w.0 w.1 c.into_doc.ensures.unit c.into_doc.ensures.surfaces) (omega (arith, offset, short))
 
 pub returns-in-Err-clause-fault : goal.returns-in-Err-clause-fault
 returns-in-Err-clause-fault c seen h =
