@@ -45,3 +45,4 @@ pub mod Each
 pub mod Laws
 pub mod Sizes
 pub mod Obeyed
+pub mod Letters

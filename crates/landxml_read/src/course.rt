@@ -49,8 +49,8 @@ impl Course {
         Ok(())
     }
 
-    /// The next byte. After an error nothing is said of what is left.
-    pub(crate) fn after(&mut self, b: u8) -> Result<(), ReadFault>
+    // The next byte, whatever it is. After an error nothing is said of what is left.
+    fn step(&mut self, b: u8) -> Result<(), ReadFault>
         requires short { self.old.standing.offset + 1 < 2 ^ 32 }
         requires known { IsKnown self.old.standing self.old.tokens self.old.gathered }
         ensures taken { (seen : List ℕ) → HasTaken seen self.old → MatchResult result
@@ -75,6 +75,23 @@ impl Course {
             Err(_) => Err(ReadFault::Memory),
         }
     }
+    /// The next byte. After an error nothing is said of what is left.
+    pub(crate) fn after(&mut self, b: u8) -> Result<(), ReadFault>
+        requires short { self.old.standing.offset + 1 < 2 ^ 32 }
+        requires known { IsKnown self.old.standing self.old.tokens self.old.gathered }
+        ensures taken { (seen : List ℕ) → HasTaken seen self.old → MatchResult result
+            (λ _. HasTaken (seen ++ b ∷ []) self.new)
+            (λ e. IsEnd (seen ++ b ∷ []) e) }
+        ensures known { OnOk result (IsKnown self.new.standing self.new.tokens self.new.gathered) }
+        ensures offset { OnOk result (self.new.standing.offset ≡ self.old.standing.offset + 1) }
+    {
+        if self.is_letter(b) {
+            self.letter(b)
+        } else {
+            self.step(b)
+        }
+    }
+
     /// The bytes of a piece. After an error nothing is said of what is left.
     pub(crate) fn read(&mut self, piece: &[u8]) -> Result<(), ReadFault>
         requires short { self.old.standing.offset + length piece.now < 2 ^ 32 }

@@ -12,6 +12,7 @@ mod element;
 mod fault;
 mod gather;
 mod kind;
+mod letter;
 mod level;
 mod list;
 mod markup;

@@ -70,8 +70,8 @@ impl Tokens {
         self.word_at = 0;
     }
 
-    // A byte of a word.
-    fn lengthen(&mut self, offset: u32, b: u8) -> Result<(), AllocError>
+    /// A byte of a word.
+    pub(crate) fn lengthen(&mut self, offset: u32, b: u8) -> Result<(), AllocError>
         ensures { OnOk result (self.new ≡ record self.old { word_at = (longer offset b (word_of self.old)).at; word = (longer offset b (word_of self.old)).text }) }
     {
         if self.word.is_empty() {

@@ -7,7 +7,7 @@ use Rattle.landxml_read.specs.Course.{IsShown}
 use Rattle.landxml_read.proofs.Readers.{outline_ends, tree_ends, taken_on}
 use Rattle.landxml_read.proofs.Knowing.{words_fit, room, known_on}
 use Rattle.landxml_read.proofs.Spelled.{can_gather}
-use Rattle.landxml_read.proofs.course.Course.after.Goals as goal
+use Rattle.landxml_read.proofs.course.Course.step.Goals as goal
 
 pub returns-in-Err-clause-taken : goal.returns-in-Err-clause-taken
 returns-in-Err-clause-taken c seen r more =
