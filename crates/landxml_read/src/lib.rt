@@ -25,8 +25,6 @@ mod scan;
 mod skipped;
 mod standing;
 mod tag;
-#[cfg(test)]
-mod tests;
 mod tokens;
 mod told;
 mod utf8;

@@ -36,7 +36,7 @@ impl Reader {
 
     /// Reads the next piece. After a fault every later call answers the same.
     pub fn feed(&mut self, piece: &[u8]) -> Result<(), ReadFault>
-        requires short { self.old.course.standing.offset + length piece.now < 2 ^ 32 }
+        requires short { ForNone self.old.ended (self.old.course.standing.offset + length piece.now < 2 ^ 32) }
         ensures read { (seen : List ℕ) → HasReadAll seen self.old → HasReadAll (seen ++ piece.now) self.new }
         ensures fed { OnOk result (self.new.course.standing.offset ≡ self.old.course.standing.offset + length piece.now) }
         ensures ok { OnOk result (self.new.ended ≡ None) }

@@ -1,0 +1,5 @@
+use Rattle.std.proofs.Common.{◌≡◌}
+use Rattle.landxml_tests.proofs.reading.read_byte_by_byte.Given as goal
+
+abbrev pub invariant-loop-b : goal.invariant-loop-b
+invariant-loop-b l = l.reader.course.standing.offset ≡ l.b-index
