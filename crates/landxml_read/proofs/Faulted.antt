@@ -83,7 +83,7 @@ front_of : (seen rest : List ℕ) (n : ℕ) → n ≤ length seen → take n (se
 front_of seen rest n le = take-append-le n seen rest le
 
 -- a fault of a tree isn't shown before the end of what was read quietly
-tree_later : (seen rest : List ℕ) (r : Reading) (g : Fault) → reads (Some at_start) seen ≡ Some r → IsQuiet r → IsOfTree (seen ++ rest) g → length seen ≤ g.show
+pub tree_later : (seen rest : List ℕ) (r : Reading) (g : Fault) → reads (Some at_start) seen ≡ Some r → IsQuiet r → IsOfTree (seen ++ rest) g → length seen ≤ g.show
 tree_later seen rest r g e quiet h =
     pick (nat_lt g.show (length seen)) (length seen ≤ g.show)
     (λ t. let less : g.show < length seen = grind (arith, nat_tests) in absurd (never less))
@@ -104,7 +104,7 @@ tree_later seen rest r g e quiet h =
         none_passes (is_fault g) (tree_faults d) (omega (arith, a, b, c, quiet)) g (is_itself g) h.1.4
 
 -- the causes that come of a tree, and those that come of encoding and markup
-kinds_of : (bytes : List ℕ) (g : Fault) → Shows bytes g → (ShowsOutline bytes g × (rank g.cause ≤ 3)) ⊎ (IsOfTree bytes g × (4 ≤ rank g.cause))
+pub kinds_of : (bytes : List ℕ) (g : Fault) → Shows bytes g → (ShowsOutline bytes g × (rank g.cause ≤ 3)) ⊎ (IsOfTree bytes g × (4 ≤ rank g.cause))
 kinds_of bytes g h = by g.cause h
   where
     by : (c : DocCause) → Shows bytes (record g { cause = c }) → (ShowsOutline bytes (record g { cause = c }) × (rank c ≤ 3)) ⊎ (IsOfTree bytes (record g { cause = c }) × (4 ≤ rank c))

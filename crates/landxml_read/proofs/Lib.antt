@@ -45,4 +45,5 @@ pub mod Each
 pub mod Laws
 pub mod Sizes
 pub mod Obeyed
+pub mod Answered
 pub mod Letters

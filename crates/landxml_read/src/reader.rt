@@ -20,6 +20,8 @@ pub struct Reader {
 impl Reader {
     ghost use Rattle.std.specs.Prelude.{◌≡◌, ◌+◌, ◌<◌, ◌^◌, ◌++◌, [], ℕ, List, length, IfErr, IfOk, OnOk, Some, None, Err};
     ghost use Rattle.landxml_read.specs.declared.fault.ReadFault.TheVariants.{Memory};
+    ghost use Rattle.landxml_read.specs.Markup.{Document};
+    ghost use Rattle.landxml_read.specs.Answer.{IsTreeOf};
     ghost use Rattle.landxml_read.specs.Lawful.{IsLawful};
     ghost use Rattle.landxml_read.specs.Reader.{HasReadAll, IsRead, IsEndOf};
 
@@ -61,6 +63,7 @@ impl Reader {
         ensures whole { (seen : List ℕ) → HasReadAll seen self → IfOk result (λ doc. IsRead seen doc) }
         ensures lawful { (seen : List ℕ) → HasReadAll seen self → IfOk result (λ doc. IsLawful doc) }
         ensures fault { (seen : List ℕ) → HasReadAll seen self → IfErr result (λ e. IsEndOf seen e) }
+        ensures answered { (seen : List ℕ) (d : Document) → HasReadAll seen self → IsTreeOf seen d → IfErr result (λ e. e ≡ Memory) }
         ensures same { (e : ReadFault) → self.ended ≡ Some e → result ≡ Err e }
         ensures memory { result ≡ Err Memory → self.ended ≡ Some Memory }
     {
