@@ -38,7 +38,7 @@ use std::fs;
 use std::io;
 use std::marker::Brand;
 use std::sync::ledger::{Blank, Ledger};
-use std::time::CpuClock;
+use std::rt::CpuClock;
 
 const ROUNDS: u32 = 25;
 
