@@ -1,6 +1,6 @@
 #!/usr/bin/env bash
 # Prints the processor time and the peak of memory of reading documents of 100,000 and 1,000,000 points beside those of
-# `xmllint --stream --noout` on the same files, in the same run, each the least of five rounds. The documents are made
+# `xmllint --stream --noout` on the same files, in the same run: of five rounds the least, for one run. The documents are made
 # here from a seed: survey points, about twice as many faces, and ten breaklines. A reader is fed pieces of 64 KiB.
 # Wants `rt`, `xmllint` (of libxml2-utils), GNU time and some minutes, most of them for the proofs.
 #
@@ -134,20 +134,23 @@ EOF
 (cd "$folder/crates/read_bench" && rt run < /dev/null > "$folder/log" 2>&1) || { tail -40 "$folder/log" >&2; exit 1; }
 program=$folder/crates/read_bench/out/read_bench
 
-# The least processor time of five rounds of the command after the file $1, and its peak of memory.
+# The least processor time of five rounds of so many runs ($1) of the command after the file $2, for one run, and its peak of memory.
 measured() {
-    local file=$1
-    shift
+    local runs=$1 file=$2
+    shift 2
     for _ in 1 2 3 4 5; do
-        command time -f '%U %S %M' -o "$folder/time" "$@" < "$file" > "$folder/said"
-        cat "$folder/time"
-    done | awk 'NR == 1 || $1 + $2 < least { least = $1 + $2 } $3 > peak { peak = $3 } END { printf "%.2f s of processor time, %d MB at the peak\n", least, peak / 1000 * 1.024 }'
+        for _ in $(seq "$runs"); do
+            command time -f '%U %S %M' -o "$folder/time" "$@" < "$file" > "$folder/said"
+            cat "$folder/time"
+        done | awk '{ spent += $1 + $2 } $3 > peak { peak = $3 } END { print spent / NR, peak }'
+    done | awk 'NR == 1 || $1 < least { least = $1 } $2 > peak { peak = $2 } END { printf "%.3f s of processor time, %d MB at the peak\n", least, peak * 1.024 / 1000 }'
 }
 
 for points in 100000 1000000; do
     document "$points" > "$folder/document.xml"
+    runs=$((1000000 / points))
     printf '%s points, %s bytes\n' "$points" "$(wc -c < "$folder/document.xml")"
-    printf '  landxml_read: %s\n' "$(measured "$folder/document.xml" "$program")"
+    printf '  landxml_read: %s\n' "$(measured "$runs" "$folder/document.xml" "$program")"
     printf '    %s\n' "$(cat "$folder/said")"
-    printf '  xmllint --stream --noout: %s\n' "$(measured "$folder/document.xml" xmllint --stream --noout "$folder/document.xml")"
+    printf '  xmllint --stream --noout: %s\n' "$(measured "$runs" "$folder/document.xml" xmllint --stream --noout "$folder/document.xml")"
 done
