@@ -51,10 +51,11 @@ document() {
 
 cat > "$folder/crates/read_bench/proofs/read_all/Invariants.antt" <<'EOF'
 use Rattle.std.proofs.Common.{◌≡◌}
+use Rattle.landxml_read.specs.Reader.{fed}
 use Rattle.read_bench.proofs.read_all.Given as goal
 
 abbrev pub invariant-loop-i : goal.invariant-loop-i
-invariant-loop-i g l = l.reader.course.standing.offset ≡ l.fed
+invariant-loop-i g l = fed l.reader ≡ l.fed
 EOF
 
 cat > "$folder/crates/read_bench/src/main.rt" <<'EOF'
@@ -62,6 +63,7 @@ cat > "$folder/crates/read_bench/src/main.rt" <<'EOF'
 #![tactic(auto)]
 
 ghost use Rattle.std.specs.Prelude.{◌≡◌};
+ghost use Rattle.landxml_read.specs.Reader.{fed};
 
 use landxml_read::{RawDoc, RawFace, RawId, RawSurface, Reader, Triple};
 use std::io;
@@ -73,7 +75,7 @@ const PIECE: usize = 65_536;
 const LIMIT: usize = 4_294_967_296;
 
 fn read_all<R: Read>(reader: &mut Reader, input: &mut R, piece: &mut [u8]) -> io::Result<bool>
-    requires { reader.old.course.standing.offset ≡ 0 }
+    requires { fed reader.old ≡ 0 }
 {
     let mut fed: usize = 0;
     for _i in 0..u64::MAX {

@@ -10,6 +10,10 @@ use Rattle.landxml_read.specs.Answer.{IsTreeOf}
 use Rattle.landxml_read.specs.Lists.{unit_of, surfaces_of}
 use Rattle.landxml_read.specs.Course.{HasTaken, IsShown, IsEnd}
 
+-- how many bytes were fed without a fault
+abbrev pub fed : Reader → ℕ
+fed r = r.course.standing.offset
+
 -- what was read: where it stands, or what ended it
 abbrev pub HasReadBy : List ℕ → Course → Option ReadFault → Type 0
 HasReadBy seen c None = HasTaken seen c

@@ -1,4 +1,4 @@
-//! Buffer that come one by one.
+//! Bytes that come one by one.
 
 ghost use Rattle.std.specs.Prelude.{◌≡◌, ◌==◌, [], ◌∷◌, ◌++◌, length, IfOk, OnOk, OnErr};
 

@@ -23,12 +23,12 @@ impl Reader {
     ghost use Rattle.landxml_read.specs.Markup.{Document};
     ghost use Rattle.landxml_read.specs.Answer.{IsTreeOf};
     ghost use Rattle.landxml_read.specs.Lawful.{IsLawful};
-    ghost use Rattle.landxml_read.specs.Reader.{HasReadAll, IsRead, IsEndOf};
+    ghost use Rattle.landxml_read.specs.Reader.{fed, HasReadAll, IsRead, IsEndOf};
 
     /// A reader that has read nothing. Takes no memory.
     pub fn new(alloc: Global) -> Reader
         ensures read { HasReadAll [] result }
-        ensures nothing { result.course.standing.offset ≡ 0 }
+        ensures nothing { fed result ≡ 0 }
     {
         Reader {
             course: Course::new(alloc),
@@ -38,9 +38,9 @@ impl Reader {
 
     /// Reads the next piece. After a fault every later call answers the same.
     pub fn feed(&mut self, piece: &[u8]) -> Result<(), ReadFault>
-        requires short { ForNone self.old.ended (self.old.course.standing.offset + length piece.now < 2 ^ 32) }
+        requires short { ForNone self.old.ended (fed self.old + length piece.now < 2 ^ 32) }
         ensures read { (seen : List ℕ) → HasReadAll seen self.old → HasReadAll (seen ++ piece.now) self.new }
-        ensures fed { OnOk result (self.new.course.standing.offset ≡ self.old.course.standing.offset + length piece.now) }
+        ensures more { OnOk result (fed self.new ≡ fed self.old + length piece.now) }
         ensures ok { OnOk result (self.new.ended ≡ None) }
         ensures fault { IfErr result (λ e. self.new.ended ≡ Some e) }
         ensures same { (e : ReadFault) → self.old.ended ≡ Some e → self.new.ended ≡ Some e }
