@@ -1,0 +1,5 @@
+mod Written
+mod Digits
+mod Found
+mod Shown
+mod Faces

@@ -1,0 +1,5 @@
+pub mod Exports
+pub mod Text
+pub mod Found
+pub mod Flowing
+pub mod Counting
