@@ -65,6 +65,13 @@ impl<T> RawList<T> {
     {
         self.items.get(index)
     }
+
+    /// The values in order, for loops and iterators.
+    pub fn as_slice(&self) -> &[T]
+        ensures values { result.now ≡ self.now }
+    {
+        self.items.as_slice()
+    }
 }
 
 impl<T: Drop> RawList<T> {
