@@ -1,11 +1,13 @@
 pub mod Acrosses
 pub mod Corners
+pub mod DelaunayNets
 pub mod EdgeSearches
 pub mod EdgeSplits
 pub mod EdgeTimes
 pub mod EdgeUnsplits
 pub mod Exchange
 pub mod Exchanged
+pub mod FallingVolume
 pub mod FarTriangle
 pub mod Filled
 pub mod Flips
@@ -13,7 +15,10 @@ pub mod FreedSlots
 pub mod InSheets
 pub mod InstallRuns
 pub mod Installed
+pub mod LawsonFlips
 pub mod Laying
+pub mod LegalRuns
+pub mod Legality
 pub mod LineSides
 pub mod Lists
 pub mod NamedEdges
@@ -26,10 +31,12 @@ pub mod Shape
 pub mod SheetLaw
 pub mod Sides
 pub mod SlotLists
+pub mod SlotTriangles
 pub mod Slots
 pub mod Splits
 pub mod Stamps
 pub mod StepSheets
+pub mod StepSuspects
 pub mod Straights
 pub mod Takes
 pub mod Turned

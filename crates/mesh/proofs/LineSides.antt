@@ -19,7 +19,7 @@ known_corner (At p) known = refl
 known_corner (Far k) known = let t : true ≡ nat_lt k 3 = grind (arith, known) in sym t
 
 -- one triangle stands across an edge
-across_one : (slots : List State) → IsMesh slots → (t : TriSlot) (k : Side) (n : ℕ) (u : TriSlot) (j : Side) (n' : ℕ) (u' : TriSlot) (j' : Side) → IsAcross slots t k n u j → IsAcross slots t k n' u' j' → (u ≡ u') × (j ≡ j')
+pub across_one : (slots : List State) → IsMesh slots → (t : TriSlot) (k : Side) (n : ℕ) (u : TriSlot) (j : Side) (n' : ℕ) (u' : TriSlot) (j' : Side) → IsAcross slots t k n u j → IsAcross slots t k n' u' j' → (u ≡ u') × (j ≡ j')
 across_one slots mesh t k n u j n' u' j' a b =
     let slot : n ≡ n' = a.slot_is ∙ sym b.slot_is in
     let same = mesh.net.one n n' j j' (edge u j) (edge u' j') (ap (λ o. edge_of o j) (standing slots mesh n u a.there)) (ap (λ o. edge_of o j') (standing slots mesh n' u' b.there)) (a.starts ∙ sym b.starts) (a.ends ∙ sym b.ends) in

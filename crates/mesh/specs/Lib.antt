@@ -5,6 +5,7 @@ pub mod EdgeSplits
 pub mod EdgeUnsplits
 pub mod Faces
 pub mod FarTriangle
+pub mod FlipRuns
 pub mod Flips
 pub mod Insides
 pub mod Installs
@@ -19,6 +20,7 @@ pub mod Splits
 pub mod Stamps
 pub mod Steps
 pub mod Straights
+pub mod Suspects
 pub mod Takes
 pub mod Turning
 pub mod Unsplits

@@ -8,6 +8,7 @@ ghost use Rattle.mesh.specs.Meshes.{IsLive, raised};
 ghost use Rattle.mesh.specs.Net.{side, count_at};
 ghost use Rattle.mesh.specs.Sheets.{IsSheetMesh};
 ghost use Rattle.mesh.specs.Steps.{CountStep, AddStep, TakeStep};
+ghost use Rattle.mesh.specs.Suspects.{KeepsSuspects};
 
 use crate::count::{count_of, set_count};
 use crate::mesh::Mesh;
@@ -41,6 +42,7 @@ impl Mesh {
         requires places { JoinsPlaces self.old.slots slot (side edge) }
         ensures sheet { OnOk result (IsSheetMesh self.new.slots) }
         ensures count { OnOk result (CountStep self.old.slots self.new.slots slot (side edge) count script.old script.new) }
+        ensures suspects { OnOk result (KeepsSuspects self.old.slots self.new.slots script.old script.new) }
         ensures turns { OnOk result (self.new.turns ≡ raised self.old.turns) }
     {
         let beyond = set_count::<Brand>(&mut self.pages, slot, edge, count, Blank::new(1))?;
@@ -58,6 +60,7 @@ impl Mesh {
         requires room { (t : TriSlot) → triangle_at self.old.slots slot ≡ Some t → count_at t (side edge) < 65535 }
         ensures sheet { OnOk result (IsSheetMesh self.new.slots) }
         ensures count { OnOk result (AddStep self.old.slots self.new.slots slot (side edge) script.old script.new) }
+        ensures suspects { OnOk result (KeepsSuspects self.old.slots self.new.slots script.old script.new) }
         ensures turns { OnOk result (self.new.turns ≡ raised self.old.turns) }
     {
         let count = self.count_at(slot, edge);
@@ -73,6 +76,7 @@ impl Mesh {
         requires counted { (t : TriSlot) → triangle_at self.old.slots slot ≡ Some t → 0 < count_at t (side edge) }
         ensures sheet { OnOk result (IsSheetMesh self.new.slots) }
         ensures count { OnOk result (TakeStep self.old.slots self.new.slots slot (side edge) script.old script.new) }
+        ensures suspects { OnOk result (KeepsSuspects self.old.slots self.new.slots script.old script.new) }
         ensures turns { OnOk result (self.new.turns ≡ raised self.old.turns) }
     {
         let count = self.count_at(slot, edge);

@@ -13,6 +13,7 @@ mod flip;
 mod install;
 mod laws;
 mod lay;
+mod legalize;
 mod lookups;
 mod mesh;
 mod patch;

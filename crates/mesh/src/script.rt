@@ -1,6 +1,6 @@
 //! The slots that mesh steps wrote.
 
-ghost use Rattle.std.specs.Prelude.{◌≡◌, [], ◌∷◌, ◌++◌, length, OnOk, slice_get};
+ghost use Rattle.std.specs.Prelude.{◌≡◌, ◌<◌, Some, [], ◌∷◌, ◌++◌, length, OnOk, slice_get};
 ghost use Rattle.std.specs.Option.{option_copied};
 
 use smallvec::SmallVec;
@@ -46,6 +46,14 @@ impl Script {
         ensures { option_copied result ≡ slice_get self.now k }
     {
         self.slots.as_slice().get(k)
+    }
+
+    /// The slot at an index below the length.
+    pub(crate) fn slot_at(&self, k: usize) -> u32
+        requires { k < length self.now }
+        ensures { slice_get self.now k ≡ Some result }
+    {
+        self.slots.as_slice()[k]
     }
 
     /// Adds a slot at the end.

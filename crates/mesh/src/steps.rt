@@ -9,6 +9,7 @@ ghost use Rattle.mesh.specs.Net.{Side, side, after};
 ghost use Rattle.mesh.specs.Sheets.{IsSheetMesh};
 ghost use Rattle.mesh.specs.Steps.{SplitStep, EdgeSplitStep, FlipStep, UnsplitStep};
 ghost use Rattle.mesh.specs.Straights.{EdgeUnsplitStep, IsLineSide, IsStraightAt};
+ghost use Rattle.mesh.specs.Suspects.{KeepsSuspects};
 ghost use Rattle.mesh.specs.Unsplits.{IsUnsplittable};
 
 use crate::edge_line::line_edge;
@@ -82,6 +83,7 @@ impl Mesh {
         requires inside { IsInSlot self.old.slots slot place }
         ensures sheet { OnOk result (IsSheetMesh self.new.slots) }
         ensures split { OnOk result (SplitStep self.old.slots self.new.slots slot (At place) script.old script.new) }
+        ensures suspects { OnOk result (KeepsSuspects self.old.slots self.new.slots script.old script.new) }
         ensures turns { OnOk result (self.new.turns ≡ raised self.old.turns) }
         ensures point { IfOk result (λ point. point.0 ≡ 4 * slot + 2) }
     {
@@ -113,6 +115,7 @@ impl Mesh {
         requires on { IsOnSlot self.old.slots slot (side edge) place }
         ensures sheet { OnOk result (IsSheetMesh self.new.slots) }
         ensures split { OnOk result (EdgeSplitStep self.old.slots self.new.slots slot (side edge) (At place) script.old script.new) }
+        ensures suspects { OnOk result (KeepsSuspects self.old.slots self.new.slots script.old script.new) }
         ensures turns { OnOk result (self.new.turns ≡ raised self.old.turns) }
         ensures point { IfOk result (λ point. point.0 ≡ 4 * slot + 1) }
     {
@@ -141,6 +144,7 @@ impl Mesh {
         requires convex { IsConvexAt self.old.slots slot (side edge) }
         ensures sheet { OnOk result (IsSheetMesh self.new.slots) }
         ensures flip { OnOk result (FlipStep self.old.slots self.new.slots slot (side edge) script.old script.new) }
+        ensures suspects { OnOk result (KeepsSuspects self.old.slots self.new.slots script.old script.new) }
         ensures turns { OnOk result (self.new.turns ≡ raised self.old.turns) }
     {
         let beyond = flip_slots::<Brand>(&mut self.pages, slot, edge, Blank::new(1))?;
@@ -157,6 +161,7 @@ impl Mesh {
         requires unsplittable { IsUnsplittable self.old.slots slot (after (side corner)) }
         ensures sheet { OnOk result (IsSheetMesh self.new.slots) }
         ensures unsplit { OnOk result (UnsplitStep self.old.slots self.new.slots slot (after (side corner)) script.old script.new) }
+        ensures suspects { OnOk result (KeepsSuspects self.old.slots self.new.slots script.old script.new) }
         ensures turns { OnOk result (self.new.turns ≡ raised self.old.turns) }
     {
         let _freed = unsplit_slots::<Brand>(
@@ -187,6 +192,7 @@ impl Mesh {
         requires straight { (n : ℕ) (j : Side) → IsLineSide self.old.slots slot (side corner) n j → IsStraightAt self.old.slots n j }
         ensures sheet { OnOk result (IsSheetMesh self.new.slots) }
         ensures unsplit { OnOk result (EdgeUnsplitStep self.old.slots self.new.slots slot (side corner) script.old script.new) }
+        ensures suspects { OnOk result (KeepsSuspects self.old.slots self.new.slots script.old script.new) }
         ensures turns { OnOk result (self.new.turns ≡ raised self.old.turns) }
     {
         let line = line_edge::<Brand>(&self.pages, slot, corner, Blank::new(1));

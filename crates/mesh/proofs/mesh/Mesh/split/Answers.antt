@@ -6,6 +6,8 @@ use Rattle.mesh.specs.Splits.{IsSplit}
 use Rattle.mesh.proofs.InSheets.{inside_no_corner}
 use Rattle.mesh.proofs.Slots.{some_is, live_within}
 use Rattle.mesh.proofs.StepSheets.{split_sheet}
+use Rattle.mesh.specs.Suspects.{AreSuspects}
+use Rattle.mesh.proofs.StepSuspects.{split_suspects}
 use Rattle.mesh.proofs.mesh.Mesh.split.Goals as goal
 
 pub split_slots-requires-clause-no_corner : goal.split_slots-requires-clause-no_corner
@@ -29,3 +31,13 @@ returns-clause-sheet c =
     let done = c.in_ok-second.ensures in
     split_sheet c.args.self.now.slots new s c.in_ok-second.second c.in_ok-second.third p r.sheet done.mesh
     (subst (λ ps. IsSplit ps new s c.in_ok-second.second c.in_ok-second.third (At p)) (ap (λ m. m.slots) c.self.view_is) done.split) c.e-easting.ensures.place r.inside
+
+pub returns-clause-suspects : goal.returns-clause-suspects
+returns-clause-suspects c =
+    let new = c.split_slots.new.pages in
+    let s = c.args.slot in
+    let f = c.in_ok-second.second in
+    let g = c.in_ok-second.third in
+    let done = c.in_ok-second.ensures in
+    λ before. subst (λ l. AreSuspects new l) (sym c.in_ok-note_three.ensures)
+    (split_suspects c.args.self.now.slots new s f g (At c.args.place) c.args.script.now done.mesh (subst (λ ps. IsSplit ps new s f g (At c.args.place)) (ap (λ m. m.slots) c.self.view_is) done.split) before)

@@ -8,6 +8,8 @@ use Rattle.mesh.specs.Net.{side}
 use Rattle.mesh.proofs.InSheets.{on_edge_no_corner, two_apexes}
 use Rattle.mesh.proofs.Slots.{some_is, live_within}
 use Rattle.mesh.proofs.StepSheets.{edge_split_sheet, on_inner}
+use Rattle.mesh.specs.Suspects.{AreSuspects}
+use Rattle.mesh.proofs.StepSuspects.{edge_split_suspects}
 use Rattle.mesh.proofs.mesh.Mesh.split_edge.Goals as goal
 
 pub split_edge_slots-requires-clause-inner : goal.split_edge_slots-requires-clause-inner
@@ -45,3 +47,14 @@ returns-clause-sheet c =
     let done = c.in_ok-parts.ensures in
     edge_split_sheet c.args.self.now.slots new s k p parts.beyond parts.end parts.back r.sheet done.mesh
     (subst (λ ps. IsEdgeSplit ps new s k (At p) parts.beyond parts.end parts.back) (ap (λ m. m.slots) c.self.view_is) done.split) c.e-easting.ensures.place r.on
+
+pub returns-clause-suspects : goal.returns-clause-suspects
+returns-clause-suspects c =
+    let new = c.split_edge_slots.new.pages in
+    let s = c.args.slot in
+    let k = side c.args.edge in
+    let p = At c.args.place in
+    let parts = c.in_ok-parts.parts in
+    let done = c.in_ok-parts.ensures in
+    λ before. subst (λ l. AreSuspects new l) (sym c.in_ok-note_four.ensures)
+    (edge_split_suspects c.args.self.now.slots new s k p parts.beyond parts.end parts.back c.args.script.now done.mesh (subst (λ ps. IsEdgeSplit ps new s k p parts.beyond parts.end parts.back) (ap (λ m. m.slots) c.self.view_is) done.split) before)

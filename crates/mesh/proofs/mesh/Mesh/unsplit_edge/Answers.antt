@@ -4,6 +4,8 @@ use Rattle.mesh.specs.EdgeUnsplits.{IsEdgeUnsplittable, IsEdgeUnsplit}
 use Rattle.mesh.specs.Net.{side}
 use Rattle.mesh.specs.Straights.{IsLineSide}
 use Rattle.mesh.proofs.Straights.{place_inner, straight_unsplittable, edge_unsplit_sheet}
+use Rattle.mesh.specs.Suspects.{AreSuspects}
+use Rattle.mesh.proofs.StepSuspects.{edge_unsplit_suspects}
 use Rattle.mesh.proofs.mesh.Mesh.unsplit_edge.Goals as goal
 
 pub unsplit_edge_slots-requires-clause-unsplittable : goal.unsplit_edge_slots-requires-clause-unsplittable
@@ -50,3 +52,14 @@ line_edge-line-requires-clause-inner c =
     let r = c.requires in
     let k = side c.args.corner in
     subst (λ ps. IsInner ps c.args.slot k) (sym (ap (λ m. m.slots) c.self.view_is)) (λ t there. place_inner c.args.self.now.slots r.sheet c.args.slot t k there (inl (r.place t there)))
+
+pub returns-clause-suspects : goal.returns-clause-suspects
+returns-clause-suspects c =
+    let new = c.unsplit_edge_slots.new.pages in
+    let n = c.line_edge-line.result.slot in
+    let j = side c.line_edge-line.result.edge in
+    let freed = c.in_ok-freed.freed in
+    let done = c.in_ok-freed.ensures in
+    λ before. subst (λ l. AreSuspects new l) (sym c.in_ok-note_two.ensures)
+    (edge_unsplit_suspects c.args.self.now.slots new n j freed.ahead freed.beyond freed.under c.args.script.now done.mesh
+    (subst (λ ps. IsEdgeUnsplit ps new n j freed.ahead freed.beyond freed.under) (ap (λ m. m.slots) c.self.view_is) done.unsplit) before)
