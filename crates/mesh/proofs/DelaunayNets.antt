@@ -15,6 +15,7 @@ use Rattle.tri_pages.specs.Slots.{State, triangle_at, holding}
 use Rattle.mesh.specs.Acrosses.{apex}
 use Rattle.mesh.specs.Net.{Side, first, second, third, after, corner_at, count_at}
 use Rattle.mesh.specs.Sheets.{IsSheetMesh, triangle_of, triangles_of, net_in}
+use Rattle.mesh.specs.StepLaws.{DelaunayLaw}
 use Rattle.mesh.specs.Suspects.{AreOver, AreLegal}
 use Rattle.mesh.proofs.FallingVolume.{has_at, free_at}
 use Rattle.mesh.proofs.NetOfMesh.{net_law}
@@ -91,3 +92,6 @@ module _ (slots : List State) (m : IsSheetMesh slots) where
   delaunay_legal local = λ s k n x. local (corner_at x.tri k) (corner_at x.tri (after k)) (apex x.tri k) (apex x.beyond x.back) (has_at slots m s x.tri k x.here)
       ((λ i. has (net_in slots) (sym x.starts i) (sym x.ends i) (apex x.beyond x.back)) ∙ has_at slots m n x.beyond x.back x.there)
       (free_at slots m s x.tri k x.here x.free)
+
+pub delaunay_law : DelaunayLaw
+delaunay_law slots m = (legal_delaunay slots m, delaunay_legal slots m)

@@ -37,22 +37,25 @@ pub outside_back : (a b c d : Corner) → is_corner_inside b a d c ≡ false →
 outside_back a b c d e = shallow-outside a b c d (along (deep a b c d) (deep b a d c) (depth-exchanged (lift a) (lift b) (lift c) (lift d)) (outside-shallow b a d c e))
 
 module _ (slots : List State) (mesh : IsMesh slots) where
-  -- what is over an edge stands across it
-  pub over_across : (s : ℕ) (k : Side) (n : ℕ) (x : AreOver slots s k n) → IsAcross slots x.tri k n x.beyond x.back
-  over_across s k n x =
-      let here = standing slots mesh s x.tri x.here in
-      let there = standing slots mesh n x.beyond x.there in
-      let m = mesh.net.met s k (edge x.tri k) (ap (λ o. edge_of o k) here) in
-      let same = mesh.net.one n m.slot x.back m.side (edge x.beyond x.back) m.edge (ap (λ o. edge_of o x.back) there) m.there (x.starts ∙ sym m.back_tail) (x.ends ∙ sym m.back_head) in
+  -- two triangles over one edge stand across it
+  pub facing : (s : ℕ) (t : TriSlot) (k : Side) (n : ℕ) (u : TriSlot) (j : Side) → triangle_at slots s ≡ Some t → triangle_at slots n ≡ Some u → corner_at u j ≡ corner_at t (after k) → corner_at u (after j) ≡ corner_at t k → IsAcross slots t k n u j
+  facing s t k n u j here there starts ends =
+      let at_n = standing slots mesh n u there in
+      let m = mesh.net.met s k (edge t k) (ap (λ o. edge_of o k) (standing slots mesh s t here)) in
+      let same = mesh.net.one n m.slot j m.side (edge u j) m.edge (ap (λ o. edge_of o j) at_n) m.there (starts ∙ sym m.back_tail) (ends ∙ sym m.back_head) in
       let o = owner (slots_of slots m.slot) m.side m.edge m.there in
-      let tri : x.beyond ≡ o.tri = same_in x.beyond o.tri (sym there ∙ ap (slots_of slots) same.0 ∙ o.there) in
+      let tri : u ≡ o.tri = same_in u o.tri (sym at_n ∙ ap (slots_of slots) same.0 ∙ o.there) in
       record {
-        slot_is = same.0 ∙ sym (m.next_is (real slots mesh s x.tri x.here) (λ z. z));
-        there = x.there;
-        starts = x.starts;
-        ends = x.ends;
+        slot_is = same.0 ∙ sym (m.next_is (real slots mesh s t here) (λ z. z));
+        there = there;
+        starts = starts;
+        ends = ends;
         same_count = (λ i. count_at (tri i) (same.1 i)) ∙ ap (λ e. e.count) o.edge_is ∙ m.same_count;
       }
+
+  -- so do those of an edge that is no piece
+  abbrev pub over_across : (s : ℕ) (k : Side) (n : ℕ) (x : AreOver slots s k n) → IsAcross slots x.tri k n x.beyond x.back
+  over_across s k n x = facing s x.tri k n x.beyond x.back x.here x.there x.starts x.ends
 
   -- what stands across an edge without a count is over it
   abbrev pub across_over : (s : ℕ) (t : TriSlot) (k : Side) (n : ℕ) (u : TriSlot) (j : Side) → triangle_at slots s ≡ Some t → IsAcross slots t k n u j → count_at t k ≡ 0 → AreOver slots s k n

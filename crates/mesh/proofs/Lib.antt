@@ -1,12 +1,16 @@
 pub mod Acrosses
+pub mod Contents
 pub mod Corners
 pub mod DelaunayNets
+pub mod EdgeContents
 pub mod EdgeSearches
 pub mod EdgeSplits
 pub mod EdgeTimes
+pub mod EdgeUnsplitContents
 pub mod EdgeUnsplits
 pub mod Exchange
 pub mod Exchanged
+pub mod FaceParts
 pub mod FallingVolume
 pub mod FarTriangle
 pub mod Filled
@@ -35,6 +39,7 @@ pub mod SlotTriangles
 pub mod Slots
 pub mod Splits
 pub mod Stamps
+pub mod StepContents
 pub mod StepSheets
 pub mod StepSuspects
 pub mod Straights
@@ -42,5 +47,6 @@ pub mod Takes
 pub mod Turned
 pub mod TurnedFaces
 pub mod TurnedSlots
+pub mod UnsplitContents
 pub mod Unsplits
 pub mod WrittenSlots

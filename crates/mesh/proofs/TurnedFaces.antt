@@ -132,7 +132,7 @@ pub second_alone : (r u v w : ℤ) → r ≡ u +ℤ v +ℤ w → u ≡ pos 0 →
 second_alone r u v w e f g h = omega (arith, ints, e, f, g, h)
 
 -- a place on ab, strictly between its ends, lies so on ba
-on_back : (a b c d p : Coords) → pos 0 <ℤ side a b c → pos 0 <ℤ side b a d → side a b p ≡ pos 0 → pos 0 <ℤ side b c p → pos 0 <ℤ side c a p → (pos 0 <ℤ side a d p) × (pos 0 <ℤ side d b p)
+pub on_back : (a b c d p : Coords) → pos 0 <ℤ side a b c → pos 0 <ℤ side b a d → side a b p ≡ pos 0 → pos 0 <ℤ side b c p → pos 0 <ℤ side c a p → (pos 0 <ℤ side a d p) × (pos 0 <ℤ side d b p)
 on_back a b c d p left right flat bc ca = (
   factor (side a b c) (side a d p) left
       (second_alone (side a b c *ℤ side a d p) (side b c p *ℤ side a d a) (side c a p *ℤ side a d b) (side a b p *ℤ side a d c) (mixed a d a b c p)

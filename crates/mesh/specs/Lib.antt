@@ -12,12 +12,14 @@ pub mod Installs
 pub mod Laying
 pub mod Meshes
 pub mod Net
+pub mod NetChanges
 pub mod Recounts
 pub mod Redirects
 pub mod Sheets
 pub mod SlotLists
 pub mod Splits
 pub mod Stamps
+pub mod StepLaws
 pub mod Steps
 pub mod Straights
 pub mod Suspects

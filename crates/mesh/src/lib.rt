@@ -34,7 +34,10 @@ mod unsplit;
 mod writes;
 
 pub use across::Across;
-pub use laws::sheet_law;
+pub use laws::{
+    convex_law, delaunay_law, edge_split_law, edge_unsplit_law, flips_law, recount_law, sheet_law,
+    split_law, unsplit_law,
+};
 pub use mesh::Mesh;
 pub use patch::Patch;
 pub use point_id::PointId;
