@@ -10,9 +10,11 @@ use Rattle.predicates.specs.Net.{Triangle, has, count_of}
 use Rattle.predicates.specs.Sheet.{IsLocallyDelaunay}
 use Rattle.predicates.proofs.HasTriangles.{has-owner}
 use Rattle.predicates.proofs.Owners.{IsTurn, Still, Once, Twice}
+use Rattle.cdt_law.proofs.FirstSheet.{first_law}
 use Rattle.tri_pages.specs.declared.tri_slot.TriSlot.{TriSlot}
 use Rattle.tri_pages.specs.Slots.{State, triangle_at, holding}
 use Rattle.mesh.specs.Acrosses.{apex}
+use Rattle.mesh.specs.FarTriangle.{far_alone}
 use Rattle.mesh.specs.Net.{Side, first, second, third, after, corner_at, count_at}
 use Rattle.mesh.specs.Sheets.{IsSheetMesh, triangle_of, triangles_of, net_in}
 use Rattle.mesh.specs.StepLaws.{DelaunayLaw}
@@ -92,6 +94,10 @@ module _ (slots : List State) (m : IsSheetMesh slots) where
   delaunay_legal local = λ s k n x. local (corner_at x.tri k) (corner_at x.tri (after k)) (apex x.tri k) (apex x.beyond x.back) (has_at slots m s x.tri k x.here)
       ((λ i. has (net_in slots) (sym x.starts i) (sym x.ends i) (apex x.beyond x.back)) ∙ has_at slots m n x.beyond x.back x.there)
       (free_at slots m s x.tri k x.here x.free)
+
+-- the far triangle alone has no illegal edge
+pub far_delaunay : IsLocallyDelaunay (net_in far_alone)
+far_delaunay = first_law.1
 
 pub delaunay_law : DelaunayLaw
 delaunay_law slots m = (legal_delaunay slots m, delaunay_legal slots m)

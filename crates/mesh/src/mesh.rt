@@ -2,7 +2,8 @@
 
 ghost use Rattle.std.specs.Prelude.{◌≡◌, ◌<◌, IfOk};
 ghost use Rattle.mesh.specs.FarTriangle.{far_alone};
-ghost use Rattle.mesh.specs.Sheets.{IsSheetMesh};
+ghost use Rattle.mesh.specs.Sheets.{IsSheetMesh, net_in};
+ghost use Rattle.predicates.specs.Sheet.{IsLocallyDelaunay};
 
 use crate::redirect::OUTSIDE;
 use ground_model::Corner;
@@ -56,6 +57,7 @@ impl Mesh {
     /// The triangle of the far corners alone, in slot 0.
     pub fn empty(alloc: Global) -> Result<Mesh, AllocError>
         ensures sheet { IfOk result (λ m. IsSheetMesh m.slots) }
+        ensures delaunay { IfOk result (λ m. IsLocallyDelaunay (net_in m.slots)) }
         ensures far { IfOk result (λ m. m.slots ≡ far_alone) }
         ensures turns { IfOk result (λ m. m.turns ≡ 0) }
     {
