@@ -8,9 +8,9 @@ ghost use Rattle.locate.specs.Facets.{IsInAngle, IsRound, IsCornerOf};
 
 use crate::facet::is_facet_at;
 use crate::part::sign_of;
-use crate::seen::{edge_before, seen_from};
+use crate::sides::edge_before;
 use ground_model::{Facet, Place};
-use mesh::Mesh;
+use mesh::{Mesh, seen_from};
 use tri_pages::TriSlot;
 
 /// What a triangle at the facet's first corner tells: it is the facet, or no triangle is, or another

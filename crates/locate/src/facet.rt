@@ -5,8 +5,8 @@ ghost use Rattle.ground_model.specs.declared.corner.Corner.TheVariants.{At};
 ghost use Rattle.mesh.specs.Net.{side};
 ghost use Rattle.locate.specs.Facets.{IsFacet, IsFacetAt};
 
-use crate::seen::{Seen, seen_from};
 use ground_model::{Corner, Facet};
+use mesh::{Seen, seen_from};
 use tri_pages::TriSlot;
 
 // Whether three corners are those of the facet.

@@ -7,7 +7,7 @@ mod facet;
 mod part;
 mod scan;
 mod search;
-mod seen;
+mod sides;
 mod spot;
 mod walk;
 

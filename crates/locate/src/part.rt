@@ -8,8 +8,8 @@ ghost use Rattle.mesh.specs.Net.{Side, after, corner_at, first, second, third, s
 ghost use Rattle.mesh.specs.Sheets.{IsTurned};
 ghost use Rattle.locate.specs.Parts.{IsSigned, sign_at, IsPart, HasNoRight, IsRightAt};
 
-use crate::seen::seen_from;
 use ground_model::{Corner, Place};
+use mesh::seen_from;
 use predicates::{Sign, side};
 use tri_pages::TriSlot;
 

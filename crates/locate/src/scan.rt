@@ -6,7 +6,7 @@ ghost use Rattle.mesh.specs.Sheets.{IsSheetMesh};
 ghost use Rattle.locate.specs.Spots.{IsLook, IsSpot};
 
 use crate::part::{Part, part_of};
-use crate::seen::next_over;
+use crate::sides::next_over;
 use crate::spot::Spot;
 use ground_model::Place;
 use mesh::Mesh;

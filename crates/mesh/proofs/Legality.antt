@@ -1,5 +1,5 @@
 -- Edges that are locally Delaunay, and what a step leaves suspect.
-use Rattle.std.proofs.Common.{◌≡◌, ◌⊎◌, ◌≤◌, ◌+◌, ℕ, suc, zero, false, true, Some, List, [], ◌∷◌, ◌++◌, length, get_or, sym, ap, ◌∙◌, inl, inr, subst, arith}
+use Rattle.std.proofs.Common.{◌≡◌, ◌⊎◌, ◌≤◌, ◌+◌, ℕ, suc, zero, false, true, Some, None, List, [], ◌∷◌, ◌++◌, length, get_or, sym, ap, ◌∙◌, inl, inr, subst, arith}
 use Rattle.std.specs.Ordering.{is_gt}
 use Rattle.std.specs.Prelude.{ℤ, pos, ◌≤ℤ◌, ◌<ℤ◌}
 use Rattle.std.specs.List.{slice_get}
@@ -21,7 +21,7 @@ use Rattle.mesh.specs.Acrosses.{apex, IsAcross}
 use Rattle.mesh.specs.Faces.{face, face_at}
 use Rattle.mesh.specs.Meshes.{IsMesh}
 use Rattle.mesh.specs.Net.{Side, after, place, corner_at, count_at, next_at, edge, edge_of, slots_of, outside}
-use Rattle.mesh.specs.Suspects.{AreOver, IsLegal, IsLegalAt, IsLegalSlot, AreLegal, IsNamedFrom, AreSuspectsFrom}
+use Rattle.mesh.specs.Suspects.{AreOver, IsLegal, IsLegalAt, IsDoneAt, IsDoneSlot, AreLegal, IsNamedFrom, AreSuspectsFrom}
 use Rattle.mesh.proofs.Corners.{owner}
 use Rattle.mesh.proofs.Filled.{Faced, faced}
 use Rattle.mesh.proofs.LineSides.{across_one}
@@ -77,9 +77,18 @@ module _ (slots : List State) (mesh : IsMesh slots) where
   pub legal_rim : (s : ℕ) (t : TriSlot) (k : Side) → triangle_at slots s ≡ Some t → next_at t k ≡ outside → IsLegalAt slots s k
   legal_rim s t k here out = λ n x. absurd (real slots mesh n x.beyond x.there ((over_across s k n x).slot_is ∙ ap (λ y. next_at y k) (same_in x.tri t (sym x.here ∙ here)) ∙ out))
 
-  -- nor an edge of a slot without a triangle
-  pub legal_free : (s : ℕ) → ((t : TriSlot) → triangle_at slots s ≡ Some t → ⊥) → IsLegalSlot slots s
-  legal_free s none = λ k n x. absurd (none x.tri x.here)
+  -- a slot without a triangle has none
+  pub done_free : (script : List ℕ) (start s : ℕ) → triangle_at slots s ≡ None → IsDoneSlot slots script start s
+  done_free script start s none = λ k n x. absurd (none-some x.tri (sym none ∙ x.here))
+
+  -- an edge whose other slot comes later is done with
+  pub done_later : (script : List ℕ) (start s : ℕ) (t : TriSlot) (k : Side) → triangle_at slots s ≡ Some t → IsNamedFrom script start (next_at t k) → IsDoneAt slots script start s k
+  done_later script start s t k here named = λ n x.
+      let is : next_at t k ≡ n = ap (λ y. next_at y k) (same_in t x.tri (sym here ∙ x.here)) ∙ sym (over_across s k n x).slot_is in
+      inr (subst (λ i. IsNamedFrom script start i) is named)
+
+  pub done_legal : (script : List ℕ) (start s : ℕ) (k : Side) → IsLegalAt slots s k → IsDoneAt slots script start s k
+  done_legal script start s k legal = λ n x. inl (legal n x)
 
   -- what was read across decides
   pub legal_read : (s : ℕ) (t : TriSlot) (k : Side) (n : ℕ) (u : TriSlot) (j : Side) → triangle_at slots s ≡ Some t → IsAcross slots t k n u j → is_corner_inside (corner_at t k) (corner_at t (after k)) (apex t k) (apex u j) ≡ false → IsLegalAt slots s k
@@ -89,17 +98,28 @@ module _ (slots : List State) (mesh : IsMesh slots) where
       let same = across_one slots mesh t k m x.beyond x.back n u j y across in
       (λ i. is_corner_inside (corner_at (tri i) k) (corner_at (tri i) (after k)) (apex (tri i) k) (apex (same.0 i) (same.1 i))) ∙ h
 
+  -- an edge of a slot that is done with, from either side
+  looked_by : (script : List ℕ) (start s m n : ℕ) (k : Side) (x : AreOver slots m k n) → IsDoneSlot slots script start s → (s ≡ m) ⊎ (s ≡ n) → IsLegal slots m k n x ⊎ (IsNamedFrom script start m ⊎ IsNamedFrom script start n)
+  looked_by script start s m n k x done (inl e) = elim (subst (λ i. IsDoneSlot slots script start i) e done k n x) as (λ _. IsLegal slots m k n x ⊎ (IsNamedFrom script start m ⊎ IsNamedFrom script start n)) [
+    | inl h ↦ inl h
+    | inr w ↦ inr (inr w)
+  ]
+  looked_by script start s m n k x done (inr e) = elim (subst (λ i. IsDoneSlot slots script start i) e done x.back m (over_back m k n x)) as (λ _. IsLegal slots m k n x ⊎ (IsNamedFrom script start m ⊎ IsNamedFrom script start n)) [
+    | inl h ↦ inl (legal_back m k n x h)
+    | inr w ↦ inr (inl w)
+  ]
+
   -- a slot that was looked at is suspect no more
-  pub looked_at : (script : List ℕ) (start s : ℕ) → slice_get script start ≡ Some s → IsLegalSlot slots s → AreSuspectsFrom slots script start → AreSuspectsFrom slots script (start + 1)
-  looked_at script start s at legal suspects = λ m k n x. elim (suspects m k n x) as (λ _. IsLegal slots m k n x ⊎ (IsNamedFrom script (start + 1) m ⊎ IsNamedFrom script (start + 1) n)) [
+  pub looked_at : (script : List ℕ) (start s : ℕ) → slice_get script start ≡ Some s → IsDoneSlot slots script (start + 1) s → AreSuspectsFrom slots script start → AreSuspectsFrom slots script (start + 1)
+  looked_at script start s at done suspects = λ m k n x. elim (suspects m k n x) as (λ _. IsLegal slots m k n x ⊎ (IsNamedFrom script (start + 1) m ⊎ IsNamedFrom script (start + 1) n)) [
     | inl h ↦ inl h
     | inr named ↦ elim named as (λ _. IsLegal slots m k n x ⊎ (IsNamedFrom script (start + 1) m ⊎ IsNamedFrom script (start + 1) n)) [
       | inl w ↦ elim (cases_eq w.index start) as (λ _. IsLegal slots m k n x ⊎ (IsNamedFrom script (start + 1) m ⊎ IsNamedFrom script (start + 1) n)) [
-        | inl e ↦ inl (subst (λ i. IsLegalSlot slots i) (same_in s m (sym at ∙ ap (slice_get script) (sym e) ∙ w.at)) legal k n x)
+        | inl e ↦ looked_by script (start + 1) s m n k x done (inl (same_in s m (sym at ∙ ap (slice_get script) (sym e) ∙ w.at)))
         | inr ne ↦ inr (inl (record { index = w.index; later = omega (arith, ne, w.later); at = w.at }))
       ]
       | inr w ↦ elim (cases_eq w.index start) as (λ _. IsLegal slots m k n x ⊎ (IsNamedFrom script (start + 1) m ⊎ IsNamedFrom script (start + 1) n)) [
-        | inl e ↦ inl (legal_back m k n x (subst (λ i. IsLegalSlot slots i) (same_in s n (sym at ∙ ap (slice_get script) (sym e) ∙ w.at)) legal x.back m (over_back m k n x)))
+        | inl e ↦ looked_by script (start + 1) s m n k x done (inr (same_in s n (sym at ∙ ap (slice_get script) (sym e) ∙ w.at)))
         | inr ne ↦ inr (inr (record { index = w.index; later = omega (arith, ne, w.later); at = w.at }))
       ]
     ]

@@ -26,10 +26,6 @@ IsLegal slots s k n x = is_corner_inside (corner_at x.tri k) (corner_at x.tri (a
 abbrev pub IsLegalAt : List State → ℕ → Side → Type 0
 IsLegalAt slots s k = (n : ℕ) (x : AreOver slots s k n) → IsLegal slots s k n x
 
--- each edge of the slot is
-abbrev pub IsLegalSlot : List State → ℕ → Type 0
-IsLegalSlot slots s = (k : Side) → IsLegalAt slots s k
-
 -- the edge is no piece and not locally Delaunay
 pub record IsIllegalAt (slots : List State) (s : ℕ) (k : Side) : Type 0 where
   pub n : ℕ
@@ -45,6 +41,14 @@ pub record IsNamedFrom (script : List ℕ) (start s : ℕ) : Type 0 where
   pub index : ℕ
   pub later : start ≤ index
   pub at : slice_get script index ≡ Some s
+
+-- the edge k of slot s is locally Delaunay, or the slot beyond is named from there on
+abbrev pub IsDoneAt : List State → List ℕ → ℕ → ℕ → Side → Type 0
+IsDoneAt slots script start s k = (n : ℕ) (x : AreOver slots s k n) → IsLegal slots s k n x ⊎ IsNamedFrom script start n
+
+-- each edge of the slot is
+abbrev pub IsDoneSlot : List State → List ℕ → ℕ → ℕ → Type 0
+IsDoneSlot slots script start s = (k : Side) → IsDoneAt slots script start s k
 
 -- of each edge that is no piece and not locally Delaunay one of the two slots is named, at the index `start` or later
 abbrev pub AreSuspectsFrom : List State → List ℕ → ℕ → Type 0

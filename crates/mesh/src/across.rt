@@ -7,7 +7,7 @@ ghost use Rattle.mesh.specs.Meshes.{IsMesh};
 ghost use Rattle.mesh.specs.Net.{side, next_at, outside};
 
 use crate::read::read_live;
-use crate::seen::{edge_from, seen_from};
+use crate::seen_edges::{edge_from, seen_from};
 use page_vec::Steps;
 use std::sync::ledger::Ledger;
 use tri_pages::{TriPages, TriSlot};

@@ -10,7 +10,7 @@ ghost use Rattle.mesh.specs.Net.{side, count_at};
 
 use crate::across::{Across, read_across};
 use crate::read::read_live;
-use crate::seen::seen_from;
+use crate::seen_edges::seen_from;
 use crate::writes::write_two;
 use page_vec::Steps;
 use std::alloc::AllocError;

@@ -4,7 +4,7 @@ ghost use Rattle.std.specs.Prelude.{◌≡◌, ◌<◌, true, false, Some, IfSom
 ghost use Rattle.mesh.specs.EdgeSearch.{IsEdgeAt, HasNoSide, HasNone};
 ghost use Rattle.mesh.specs.Net.{side, after, corner_at};
 
-use crate::seen::seen_from;
+use crate::seen_edges::seen_from;
 use ground_model::Corner;
 use tri_pages::TriSlot;
 

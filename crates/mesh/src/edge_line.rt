@@ -11,7 +11,7 @@ ghost use Rattle.mesh.specs.Straights.{IsLineSide};
 
 use crate::across::read_across;
 use crate::read::read_live;
-use crate::seen::{edge_after, seen_from};
+use crate::seen_edges::{edge_after, seen_from};
 use ground_model::Corner;
 use page_vec::Steps;
 use predicates::side;

@@ -12,7 +12,7 @@ ghost use Rattle.mesh.specs.Net.{side};
 use crate::across::{Across, read_across};
 use crate::read::read_live;
 use crate::redirect::redirect;
-use crate::seen::seen_from;
+use crate::seen_edges::seen_from;
 use crate::take::take_two;
 use crate::writes::write_four;
 use ground_model::Corner;

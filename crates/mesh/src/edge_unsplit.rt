@@ -10,7 +10,7 @@ ghost use Rattle.mesh.specs.Net.{side, after};
 use crate::across::{Across, read_across};
 use crate::read::read_live;
 use crate::redirect::redirect;
-use crate::seen::{edge_after, seen_from};
+use crate::seen_edges::{edge_after, seen_from};
 use crate::unsplit::give_two;
 use crate::writes::write_two;
 use page_vec::Steps;

@@ -8,7 +8,7 @@ ghost use Rattle.mesh.specs.SlotLists.{AreApart};
 
 use crate::edge_find::{find_edge, tri_at};
 use crate::redirect::OUTSIDE;
-use crate::seen::seen_from;
+use crate::seen_edges::seen_from;
 use crate::slot_lists::slot_at;
 use ground_model::Corner;
 use page_vec::Steps;

@@ -11,7 +11,7 @@ use crate::across::{Across, read_across};
 use crate::mesh::Mesh;
 use crate::read::read_live;
 use crate::redirect::OUTSIDE;
-use crate::seen::seen_from;
+use crate::seen_edges::seen_from;
 use page_vec::Steps;
 use std::marker::Brand;
 use std::sync::ledger::{Blank, Ledger};

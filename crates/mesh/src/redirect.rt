@@ -5,7 +5,7 @@ ghost use Rattle.mesh.specs.Net.{edges_of, slots_of};
 ghost use Rattle.mesh.specs.Redirects.{Chosen, IsTurnedTri, IsRedirected};
 ghost use Rattle.mesh.specs.Faces.{KeepsFaces};
 
-use crate::seen::seen_from;
+use crate::seen_edges::seen_from;
 use ground_model::Corner;
 use page_vec::Steps;
 use std::alloc::AllocError;

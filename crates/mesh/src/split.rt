@@ -7,7 +7,7 @@ ghost use Rattle.mesh.specs.Splits.{IsSplit, split_part};
 
 use crate::read::read_live;
 use crate::redirect::redirect;
-use crate::seen::seen_from;
+use crate::seen_edges::seen_from;
 use crate::take::take_two;
 use crate::writes::write_three;
 use ground_model::Corner;

@@ -19,7 +19,7 @@ use crate::flip::flip_slots;
 use crate::mesh::Mesh;
 use crate::point_id::PointId;
 use crate::script::Script;
-use crate::seen::edge_after;
+use crate::seen_edges::edge_after;
 use crate::split::split_slots;
 use crate::unsplit::unsplit_slots;
 use ground_model::{Corner, Place};

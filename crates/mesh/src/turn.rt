@@ -10,7 +10,7 @@ ghost use Rattle.mesh.specs.Turning.{AreLedOn, AreOnce, IsTurnedAt, IsTurnedRoun
 
 use crate::edge_find::{find_edge, tri_at};
 use crate::redirect::redirect;
-use crate::seen::seen_from;
+use crate::seen_edges::seen_from;
 use crate::slot_lists::slot_at;
 use ground_model::Corner;
 use page_vec::Steps;

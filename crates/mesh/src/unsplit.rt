@@ -9,7 +9,7 @@ ghost use Rattle.mesh.specs.Unsplits.{IsUnsplit, IsUnsplittable, whole};
 use crate::across::read_across;
 use crate::read::read_live;
 use crate::redirect::redirect;
-use crate::seen::{edge_after, seen_from};
+use crate::seen_edges::{edge_after, seen_from};
 use page_vec::Steps;
 use std::alloc::AllocError;
 use std::sync::ledger::{Blank, Ledger};

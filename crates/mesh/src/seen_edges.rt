@@ -8,20 +8,21 @@ use tri_pages::TriSlot;
 
 /// A triangle abc as seen from its edge ab, with the counts and the slots beyond.
 #[derive(Clone, Copy)]
-pub(crate) struct Seen {
-    pub(crate) a: Corner,
-    pub(crate) b: Corner,
-    pub(crate) c: Corner,
-    pub(crate) ab: u16,
-    pub(crate) bc: u16,
-    pub(crate) ca: u16,
-    pub(crate) beyond_ab: u32,
-    pub(crate) beyond_bc: u32,
-    pub(crate) beyond_ca: u32,
+pub struct Seen {
+    pub a: Corner,
+    pub b: Corner,
+    pub c: Corner,
+    pub ab: u16,
+    pub bc: u16,
+    pub ca: u16,
+    pub beyond_ab: u32,
+    pub beyond_bc: u32,
+    pub beyond_ca: u32,
 }
 
-/// The triangle from an edge on.
-pub(crate) fn seen_from(t: &TriSlot, edge: u8) -> Seen
+/// The triangle from an edge on, or from the corner where that edge begins.
+#[inline]
+pub fn seen_from(t: &TriSlot, edge: u8) -> Seen
     requires { edge < 3 }
     ensures a { result.a ≡ corner_at t.now (side edge) }
     ensures b { result.b ≡ corner_at t.now (after (side edge)) }
