@@ -3,4 +3,6 @@
 #![tactic(auto)]
 
 #[cfg(test)]
+mod grown;
+#[cfg(test)]
 mod spots;
