@@ -143,29 +143,65 @@ fn place_at<R: Abort>(rt: &R, k: u32, width: u32) -> Place
     Place::new(e as i32, n as i32).expect(rt, "a place")
 }
 
-// Inserts this many places into an empty mesh, and compares after each.
-fn grow<R: Abort>(rt: &R, alloc: Global, width: u32, count: u32) -> Result<(), AllocError>
-    requires { 0 < width }
+// Inserts some places of the sequence, and compares after each.
+fn grow<R: Abort>(
+    rt: &R,
+    alloc: Global,
+    mesh: &mut Mesh,
+    points: &mut Vec<Place>,
+    width: u32,
+    places: (u32, u32),
+) -> Result<(), AllocError>
+    requires width { 0 < width }
+    requires sheet { IsSheetMesh mesh.old.slots }
+    requires local { IsLocallyDelaunay (net_in mesh.old.slots) }
+    ensures sheet { OnOk result (IsSheetMesh mesh.new.slots) }
+    ensures local { OnOk result (IsLocallyDelaunay (net_in mesh.new.slots)) }
 {
-    let mut mesh = Mesh::empty(alloc)?;
-    let mut points: Vec<Place> = Vec::new(alloc);
-    for k in 0..count {
+    for k in places.0..places.1 {
         let p = place_at(rt, k, width);
-        insert(&mut mesh, p, alloc)?;
-        with_point(&mut points, p)?;
-        assert!(rt; is_right(&mesh, &points, alloc)?, "after {k} in {width}");
+        insert(mesh, p, alloc)?;
+        with_point(points, p)?;
+        assert!(rt; is_right(mesh, points, alloc)?, "after {k} in {width}");
     }
     Ok(())
 }
 
+// Inserts this many places into an empty mesh.
+fn grow_from_empty<R: Abort>(
+    rt: &R,
+    alloc: Global,
+    width: u32,
+    count: u32,
+) -> Result<(), AllocError>
+    requires { 0 < width }
+{
+    let mut mesh = Mesh::empty(alloc)?;
+    let mut points: Vec<Place> = Vec::new(alloc);
+    grow(rt, alloc, &mut mesh, &mut points, width, (0, count))
+}
+
 #[test]
 fn small_grid_with_places_again(rt: HostRuntime) -> Result<(), Fail> {
-    grow(&rt, rt.alloc(), 8, 60)?;
+    grow_from_empty(&rt, rt.alloc(), 8, 60)?;
     Ok(())
 }
 
 #[test]
 fn scattered_places(rt: HostRuntime) -> Result<(), Fail> {
-    grow(&rt, rt.alloc(), 1_000, 40)?;
+    grow_from_empty(&rt, rt.alloc(), 1_000, 40)?;
+    Ok(())
+}
+
+#[test]
+fn share_stays_as_it_was(rt: HostRuntime) -> Result<(), Fail> {
+    let mut mesh = Mesh::empty(rt.alloc())?;
+    let mut points: Vec<Place> = Vec::new(rt.alloc());
+    grow(&rt, rt.alloc(), &mut mesh, &mut points, 9, (0, 12))?;
+    let held = mesh.share()?;
+    let then = points.len();
+    grow(&rt, rt.alloc(), &mut mesh, &mut points, 9, (12, 30))?;
+    points.truncate(then);
+    assert!(rt; is_right(&held, &points, rt.alloc())?, "the share");
     Ok(())
 }
