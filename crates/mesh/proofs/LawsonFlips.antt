@@ -13,9 +13,9 @@ use Rattle.mesh.specs.Insides.{IsConvexAt, IsUncounted}
 use Rattle.mesh.specs.Meshes.{IsMesh, IsLive}
 use Rattle.mesh.specs.Net.{Side, after, corner_at, count_at, next_at, slots_of}
 use Rattle.mesh.specs.Sheets.{IsSheetMesh}
-use Rattle.mesh.specs.StepLaws.{ConvexLaw}
+use Rattle.mesh.specs.StepLaws.{ConvexLaw, IllegalLaw}
 use Rattle.mesh.specs.Suspects.{IsIllegalAt, IsNamedFrom, AreSuspectsFrom}
-use Rattle.mesh.proofs.FallingVolume.{convex_at, volume_falls}
+use Rattle.mesh.proofs.FallingVolume.{convex_at, illegal, volume_falls}
 use Rattle.mesh.proofs.Legality.{over_across, suspects_kept, named_on, named_now}
 use Rattle.mesh.proofs.LineSides.{across_one}
 use Rattle.mesh.proofs.NamedEdges.{same_in}
@@ -68,3 +68,6 @@ flipped_suspects old new s k n script start mesh is at suspects =
 
 pub convex_law : ConvexLaw
 convex_law slots s k m x = record { live = illegal_live slots m s k x; inner = illegal_inner slots m s k x; uncounted = illegal_uncounted slots m s k x; convex = illegal_convex slots m s k x }
+
+pub illegal_law : IllegalLaw
+illegal_law slots s k m x = illegal slots m s k x.n x.over x.inside

@@ -4,6 +4,7 @@ use Rattle.ground_model.specs.declared.corner.Corner.TheVariants.{At}
 use Rattle.ground_model.specs.Place.{Coords, IsPlace}
 use Rattle.predicates.specs.Net.{count_of}
 use Rattle.predicates.specs.Sheet.{IsLocallyDelaunay}
+use Rattle.cdt_law.specs.Flips.{IsIllegal}
 use Rattle.tri_pages.specs.Slots.{State}
 use Rattle.mesh.specs.Acrosses.{apex, IsInner}
 use Rattle.mesh.specs.EdgeSplits.{IsEdgeSplit}
@@ -34,6 +35,11 @@ pub record CanFlip (slots : List State) (s : ℕ) (k : Side) : Type 0 where
 -- an illegal edge can be flipped
 abbrev pub ConvexLaw : Type 0
 ConvexLaw = (slots : List State) (s : ℕ) (k : Side) → IsSheetMesh slots → IsIllegalAt slots s k → CanFlip slots s k
+
+-- an illegal edge of a mesh is one of its net
+abbrev pub IllegalLaw : Type 0
+IllegalLaw = (slots : List State) (s : ℕ) (k : Side) → IsSheetMesh slots → (x : IsIllegalAt slots s k)
+    → IsIllegal (net_in slots) (corner_at x.over.tri k) (corner_at x.over.tri (after k)) (apex x.over.tri k) (apex x.over.beyond x.over.back)
 
 -- a run of Lawson's flips leaves the points and the counts
 abbrev pub FlipsLaw : Type 0

@@ -1,7 +1,7 @@
 //! Laws of the meshes that the steps keep, and of what the steps make of their points and pieces.
 
 ghost use Rattle.mesh.specs.Sheets.{NetLaw, SheetLaw};
-ghost use Rattle.mesh.specs.StepLaws.{ConvexLaw, DelaunayLaw, EdgeSplitLaw, EdgeUnsplitLaw, FlipsLaw, RecountLaw, SplitLaw, UnsplitLaw};
+ghost use Rattle.mesh.specs.StepLaws.{ConvexLaw, DelaunayLaw, EdgeSplitLaw, EdgeUnsplitLaw, FlipsLaw, IllegalLaw, RecountLaw, SplitLaw, UnsplitLaw};
 
 /// A mesh whose triangles are counterclockwise is a sheet of the places among its corners, with the
 /// counts of its edges; and there is such a net.
@@ -19,6 +19,12 @@ pub fn delaunay_law()
 /// An edge that is no piece and not locally Delaunay can be flipped: its quadrilateral is strictly convex.
 pub fn convex_law()
     ensures { ConvexLaw }
+{}
+
+/// An edge of a mesh that is no piece and not locally Delaunay is so in the mesh's net. So neither of the two
+/// triangles that its flip takes out is a facet of the net's points and pieces, by the laws of flips.
+pub fn illegal_law()
+    ensures { IllegalLaw }
 {}
 
 /// Lawson's flips leave the points and the pieces.

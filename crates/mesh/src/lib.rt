@@ -1,5 +1,5 @@
 //! A mesh of triangles as a net over slots that versions share, and the steps that change it.
-//! It never asks where a corner lies.
+//! It asks where corners lie only to find the line through one, and which edges to flip.
 #![tactic(auto)]
 
 mod across;
@@ -35,8 +35,8 @@ mod writes;
 
 pub use across::Across;
 pub use laws::{
-    convex_law, delaunay_law, edge_split_law, edge_unsplit_law, flips_law, recount_law, sheet_law,
-    split_law, unsplit_law,
+    convex_law, delaunay_law, edge_split_law, edge_unsplit_law, flips_law, illegal_law,
+    recount_law, sheet_law, split_law, unsplit_law,
 };
 pub use mesh::Mesh;
 pub use patch::Patch;
