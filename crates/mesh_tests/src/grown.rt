@@ -181,6 +181,67 @@ fn grow_from_empty<R: Abort>(
     grow(rt, alloc, &mut mesh, &mut points, width, (0, count))
 }
 
+const CASES: [([(i32, i32); 6], &str); 5] = [
+    (
+        [(0, 0), (2, 0), (2, 2), (0, 2), (1, 1), (3, 1)],
+        "a square, its centre, and a place beside it",
+    ),
+    (
+        [(0, 0), (1, 1), (3, 3), (2, 2), (4, 4), (2, 3)],
+        "collinear, and a place beside them",
+    ),
+    (
+        [(5, 0), (3, 4), (0, 5), (-3, 4), (-4, -3), (3, -4)],
+        "on one circle",
+    ),
+    (
+        [(0, 0), (4, 0), (0, 4), (2, 2), (2, 0), (1, 1)],
+        "on the edges of the hull, and within",
+    ),
+    (
+        [
+            (0, 0),
+            (4, 1),
+            (1, 4),
+            (-9, -9),
+            (0, 0),
+            (536_870_912, -536_870_912),
+        ],
+        "outside the hull, again, and at the limit",
+    ),
+];
+
+// Inserts these places into an empty mesh, and compares after each.
+fn grow_case<R: Abort>(
+    rt: &R,
+    alloc: Global,
+    places: [(i32, i32); 6],
+    name: &str,
+) -> Result<(), AllocError> {
+    let mut mesh = Mesh::empty(alloc)?;
+    let mut points: Vec<Place> = Vec::new(alloc);
+    for at in places {
+        let p = Place::new(at.0, at.1).expect(rt, "a place");
+        insert(&mut mesh, p, alloc)?;
+        with_point(&mut points, p)?;
+        assert!(rt;
+            is_right(&mesh, &points, alloc)?,
+            "{name}: {}, {}",
+            at.0,
+            at.1
+        );
+    }
+    Ok(())
+}
+
+#[test]
+fn squares_lines_circles_and_hulls(rt: HostRuntime) -> Result<(), Fail> {
+    for case in CASES {
+        grow_case(&rt, rt.alloc(), case.0, case.1)?;
+    }
+    Ok(())
+}
+
 #[test]
 fn small_grid_with_places_again(rt: HostRuntime) -> Result<(), Fail> {
     grow_from_empty(&rt, rt.alloc(), 8, 60)?;
