@@ -1,7 +1,11 @@
-//! Tests of reading documents, over the crates as they are built. In a crate of their own they
+//! Tests of reading documents and of drafting their surfaces, over the crates as they are built. In a crate of their own they
 //! prove none of them again.
 #![tactic(auto)]
 
+#[cfg(test)]
+mod draft_tests;
+#[cfg(test)]
+mod drafting;
 #[cfg(test)]
 mod fault_tests;
 #[cfg(test)]
