@@ -8,7 +8,7 @@ ghost use Rattle.session.specs.Sessions.{takes_turn};
 
 use ground_io::MemSink;
 use ground_model::Limits;
-use ground_num::{Head, Name};
+use ground_num::{Head, Name, Origin, Thousandths};
 use line_protocol::{LineFault, Reply, Request, put_reply, read_request};
 use page_vec::Steps;
 use session::{Session, needs_turn, own_step, turn_step};
@@ -62,6 +62,15 @@ impl Model for Site {
     ghost view = { λ s. s.store.journal };
 
     ghost invariant = { λ s. IsPrefix s.a.journal s.store.journal × IsPrefix s.b.journal s.store.journal × IsPrefix s.c.journal s.store.journal };
+}
+
+fn zero() -> Origin
+    ensures { IsOrigin result }
+{
+    Origin {
+        n: Thousandths(0),
+        e: Thousandths(0),
+    }
 }
 
 /// The head of each surface here.
