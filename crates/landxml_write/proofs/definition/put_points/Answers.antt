@@ -9,7 +9,7 @@ unfolding points_text
 loop-k-init g c = g.met.O.Output.takes_none c.args.out.now
 
 pub unreachable-requires : goal.unreachable-requires
-unreachable-requires g c = is_there (g.E.Export.shown c.args.export.now).points c.loop-k.k (omega (arith, c.points-k-end.ensures, c.loop-k-test.true)) (sym c.point.ensures ∙ c.in_default.is)
+unreachable-requires g c = is_there (g.E.Export.shown c.args.export.now).points c.loop-k.k (omega (arith, c.points-k-end.ensures.value, c.loop-k-test.true)) (sym c.point.ensures ∙ c.in_default.is)
 
 pub loop-k-preserved : goal.loop-k-preserved
 loop-k-preserved g c =
@@ -22,4 +22,4 @@ loop-k-preserved g c =
 pub returns : goal.returns
 returns g c =
     let e = g.E.Export.shown c.args.export.now in
-    subst (λ (vs : List _). g.O.Output.Takes c.args.out.now c.loop-k.out (points_text e 1 vs)) (take_all c.loop-k.k e.points (omega (arith, c.points-k-end.ensures, c.loop-k-test.false))) c.loop-k.invariant
+    subst (λ (vs : List _). g.O.Output.Takes c.args.out.now c.loop-k.out (points_text e 1 vs)) (take_all c.loop-k.k e.points (omega (arith, c.points-k-end.ensures.value, c.loop-k-test.false))) c.loop-k.invariant

@@ -7,5 +7,5 @@ pub returns : goal.returns
 unfolding document
 returns g c =
     let both = g.met.O.Output.takes_both in
-    let head = subst (λ (h : Head). g.O.Output.Takes c.args.out.now c.put_head.new.out (head_text h)) c.head.ensures c.put_head.ensures in
+    let head = subst (λ (h : Head). g.O.Output.Takes c.args.out.now c.put_head.new.out (head_text h)) c.head.ensures.value c.put_head.ensures in
     both _ _ _ _ _ head (both _ _ _ _ _ c.put_source.ensures (both _ _ _ _ _ c.put_definition.ensures c.put.ensures))

@@ -10,7 +10,7 @@ pub put_breakline-requires : goal.put_breakline-requires
 put_breakline-requires g c =
     let line : Line = record { kind = c.in-Some.kind; places = c.in-Some.places.now } in
     let at : slice_get (g.E.Export.shown c.args.export.now).lines c.loop-k.k ≡ Some line = rw (← c.line.ensures, c.in-Some.is) refl in
-    rw c.as_slice.ensures ((g.met.E.Export.lawful c.args.export.now).places c.loop-k.k line at)
+    rw c.as_slice.ensures (c.lines-k-end.ensures.lawful.places c.loop-k.k line at)
 
 pub loop-k-preserved : goal.loop-k-preserved
 unfolding breakline_text

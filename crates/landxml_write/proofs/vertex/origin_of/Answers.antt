@@ -4,4 +4,4 @@ use Rattle.ground_num.specs.Head.{IsOrigin}
 use Rattle.landxml_write.proofs.vertex.origin_of.Goals as goal
 
 pub returns-clause-within : goal.returns-clause-within
-returns-clause-within g c = subst (λ (h : Head). IsOrigin h.origin) (sym c.head.ensures) (g.met.E.Export.lawful c.args.export.now).origin
+returns-clause-within g c = subst (λ (h : Head). IsOrigin h.origin) (sym c.head.ensures.value) c.head.ensures.lawful.origin
