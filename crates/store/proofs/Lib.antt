@@ -9,6 +9,7 @@ pub mod Orders
 pub mod Points
 pub mod Reliefs
 pub mod Removals
+pub mod Exported
 pub mod Sound
 pub mod Zones
 pub mod Moves

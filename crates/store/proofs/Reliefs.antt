@@ -170,6 +170,11 @@ module _ (points : List Coords) (ps : List Piece) where
   unfolding facets triple_cmp facet_cmp
   facets-sorted sorted = sorted-map facet_cmp (facet_with ps) (filter (is_facet_at points ps) (triples points)) (IsStrictlySortedBy-filter triple_cmp (is_facet_at points ps) (triples points) (triples-sorted points sorted))
 
+  -- the facets of points in order stand in the order of their corners
+  pub facets-by_corners : IsStrictlySortedBy place_cmp points → IsStrictlySortedBy (then_cmp (on (λ f. f.a) place_cmp) (then_cmp (on (λ f. f.b) place_cmp) (on (λ f. f.c) place_cmp))) (facets points ps)
+  unfolding facet_cmp
+  facets-by_corners sorted = facets-sorted sorted
+
   facets-left : AllByRecursion (λ f. IsTrue (is_left f.a f.b f.c)) (facets points ps)
   unfolding facets
   facets-left =

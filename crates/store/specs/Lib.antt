@@ -1,6 +1,7 @@
 pub mod Surfaces
 pub mod Births
 pub mod Versions
+pub mod Shown
 pub mod Outcomes
 pub mod Costs
 pub mod Answers

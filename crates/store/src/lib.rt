@@ -12,6 +12,7 @@ mod outcome;
 mod plan;
 mod refusals;
 mod run;
+mod shown;
 mod slopes;
 mod state;
 mod store;

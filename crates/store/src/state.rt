@@ -6,7 +6,9 @@ ghost use Rattle.std.specs.Option.{option_copied};
 ghost use Rattle.ground_num.specs.Head.{IsOrigin};
 ghost use Rattle.ground_model.specs.History.{content_of, born, IsLegal};
 ghost use Rattle.ground_model.specs.Slope.{relief};
+ghost use Rattle.landxml_write.specs.Exports.{IsExport};
 ghost use Rattle.store.specs.Births.{birth_of};
+ghost use Rattle.store.specs.Shown.{shown_by};
 ghost use Rattle.store.specs.Versions.{newest_refusal, with_next, IsMadeBy};
 
 use crate::authors::Authors;
@@ -79,6 +81,7 @@ impl State {
     pub(crate) fn head(&self) -> &Head
         ensures value { result.now ≡ self.now.journal.head }
         ensures origin { IsOrigin result.now.origin }
+        ensures lawful { IsExport (shown_by self.now.journal) }
     {
         self.head.get()
     }
@@ -101,6 +104,7 @@ impl State {
     pub(crate) fn surface(&self) -> &Surface
         ensures content { result.now ≡ content_of self.now.journal.entries }
         ensures few_points { map.len (content_of self.now.journal.entries).points ≤ 2 ^ 24 }
+        ensures lawful { IsExport (shown_by self.now.journal) }
     {
         &self.made.get().surface
     }

@@ -1,6 +1,6 @@
 //! The surface of a content: its points, its lines and their relief.
 
-ghost use Rattle.std.specs.Prelude.{◌≡◌, ◌<◌, ◌^◌, ◌-◌, length, IfOk, IsSome, T};
+ghost use Rattle.std.specs.Prelude.{◌≡◌, ◌<◌, ◌^◌, ◌-◌, length, slice_get, IfOk, IsSome, T};
 ghost use Rattle.std.specs.FinMap as map;
 ghost use Rattle.std.specs.BTreeMap.{keys};
 ghost use Rattle.ground_model.specs.declared.edit.Edit.TheVariants.{AddPoint, RemovePoint, SetLevel, AddLine, RemoveLine};
@@ -14,6 +14,7 @@ ghost use Rattle.ground_model.specs.Table.{Table, with_line, without_line};
 ghost use Rattle.store.specs.Surfaces.{content_by};
 
 use crate::facets::{facets_of, index_of, places_of};
+use crate::shown::vertex_at;
 use crate::slopes::{no_slopes, releveled, relief_on};
 use ground_model::{Facet, Level, LineId, Listed, Place};
 use line_table::{Line, Lines};
@@ -80,6 +81,13 @@ impl Surface {
         ensures { result ≡ level_of self.now place }
     {
         self.points.get(&place).copied()
+    }
+
+    /// The point at the index, in place order, with its level. It goes over those before it.
+    pub(crate) fn vertex(&self, k: u32) -> Option<(Place, Level)>
+        ensures { result ≡ slice_get (map.entries self.now.points) k }
+    {
+        vertex_at(&self.points, k)
     }
 
     /// The places of the points, in order.
