@@ -5,4 +5,6 @@
 #[cfg(test)]
 mod grown;
 #[cfg(test)]
+mod looks;
+#[cfg(test)]
 mod spots;
