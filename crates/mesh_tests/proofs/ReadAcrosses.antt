@@ -1,7 +1,5 @@
 -- What was read across edges tells what the steps ask for.
-use Rattle.std.specs.Prelude.{◌<ℤ◌, pos}
-use Rattle.std.proofs.Common.{◌≡◌, ◌⊎◌, inl, inr, ℕ, false, Some, List, refl, sym, ap, ◌∙◌, subst}
-use Rattle.ground_model.specs.Corner.{corner_side}
+use Rattle.std.proofs.Common.{◌≡◌, inl, inr, ℕ, false, Some, List, sym, ap, ◌∙◌, subst}
 use Rattle.predicates.specs.Far.{is_far, IsKnown}
 use Rattle.tri_pages.specs.declared.tri_slot.TriSlot.{TriSlot}
 use Rattle.tri_pages.specs.Slots.{State, triangle_at}
@@ -13,7 +11,7 @@ use Rattle.mesh.specs.Net.{Side, after, corner_at, count_at, next_at}
 use Rattle.mesh.specs.Sheets.{IsSheetMesh}
 use Rattle.mesh.specs.StepLaws.{CanFlip}
 use Rattle.mesh.specs.Straights.{IsBeyond, IsLineSide, IsStraight, IsStraightAt, IsThrough}
-use Rattle.mesh.specs.Unsplits.{AreAround, IsUnsplittable}
+use Rattle.mesh.specs.Unsplits.{IsUnsplittable}
 use Rattle.mesh.proofs.EdgeUnsplits.{round_side}
 use Rattle.mesh.proofs.LineSides.{across_one}
 use Rattle.mesh.proofs.NamedEdges.{same_in}

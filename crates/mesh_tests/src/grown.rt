@@ -14,8 +14,8 @@ use std::process::Abort;
 use std::test::Fail;
 use tri_pages::TriSlot;
 
-// Splits the triangle or the edge on which the place lies.
-fn split_at(mesh: &mut Mesh, place: Place, script: &mut Script) -> Result<(), AllocError>
+/// Splits the triangle or the edge on which the place lies.
+pub(crate) fn split_at(mesh: &mut Mesh, place: Place, script: &mut Script) -> Result<(), AllocError>
     requires { IsSheetMesh mesh.old.slots }
     ensures sheet { OnOk result (IsSheetMesh mesh.new.slots) }
     ensures suspects { OnOk result (KeepsSuspects mesh.old.slots mesh.new.slots script.old script.new) }
@@ -132,9 +132,9 @@ fn is_right(mesh: &Mesh, points: &[Place], alloc: Global) -> Result<bool, AllocE
     Ok(has_facets(mesh, &expected))
 }
 
-// The k-th place of a sequence within a square of this width: many are cocircular or collinear, and
-// some come again.
-fn place_at<R: Abort>(rt: &R, k: u32, width: u32) -> Place
+/// The k-th place of a sequence within a square of this width: many are cocircular or collinear, and
+/// some come again.
+pub(crate) fn place_at<R: Abort>(rt: &R, k: u32, width: u32) -> Place
     requires { 0 < width }
 {
     let state = k.wrapping_mul(2_654_435_761).wrapping_add(40_503);

@@ -7,4 +7,10 @@ mod grown;
 #[cfg(test)]
 mod looks;
 #[cfg(test)]
+mod nets;
+#[cfg(test)]
+mod random_steps;
+#[cfg(test)]
 mod spots;
+#[cfg(test)]
+mod undone;

@@ -1,9 +1,8 @@
 use Rattle.std.specs.Prelude.{pos}
-use Rattle.std.proofs.Common.{◌≡◌, ◌∙◌, false, sym, ap, subst}
+use Rattle.std.proofs.Common.{◌≡◌, ◌∙◌, false, sym, subst}
 use Rattle.ground_model.specs.Corner.{corner_side}
 use Rattle.predicates.specs.Far.{IsKnown, is_far}
-use Rattle.mesh.specs.Acrosses.{IsAcross}
-use Rattle.mesh.specs.Net.{side, after}
+use Rattle.mesh.specs.Net.{side}
 use Rattle.mesh.proofs.EdgeUnsplits.{four_of}
 use Rattle.mesh_tests.proofs.ReadAcrosses.{known, straight_seen}
 use Rattle.mesh_tests.proofs.looks.is_straight.Goals as goal
