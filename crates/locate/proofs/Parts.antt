@@ -1,24 +1,18 @@
 -- Where a place lies by a triangle, by the signs at its three edges.
-use Rattle.std.specs.Prelude.{ℤ, pos, ◌<ℤ◌, ◌≤ℤ◌, ◌+ℤ◌, ◌-ℤ◌, ◌*ℤ◌}
-use Rattle.std.proofs.Common.{◌≡◌, ◌<◌, ℕ, Bool, true, false, zero, suc, refl, sym, ap, ◌∙◌, arith, [], ◌∷◌, ⊎_elim}
+use Rattle.std.specs.Prelude.{ℤ, pos, ◌<ℤ◌, ◌≤ℤ◌}
+use Rattle.std.proofs.Common.{◌≡◌, Bool, true, false, refl, sym, arith}
 use Rattle.std.proofs.lemmas.Int.{ints}
-use Rattle.ground_model.specs.declared.corner.Corner.{Corner}
-use Rattle.ground_model.specs.declared.corner.Corner.TheVariants.{At, Far}
+use Rattle.ground_model.specs.declared.corner.Corner.TheVariants.{At}
 use Rattle.ground_model.specs.Corner.{corner_at as place_of, corner_side}
 use Rattle.ground_model.specs.Place.{Coords, IsPlace}
-use Rattle.ground_model.specs.Side.{side}
-use Rattle.ground_model.proofs.Ring.{var, ◌⊕◌, ◌⊖◌, ◌⊗◌, ring}
-use Rattle.ground_model.proofs.ZOrder.{mul-eq-zero}
-use Rattle.ground_model.proofs.Circle.{env, sideE, side-turned, same_coords}
-use Rattle.predicates.specs.Far.{IsKnown}
+use Rattle.ground_model.proofs.Circle.{side-turned}
 use Rattle.predicates.specs.Sign.{order}
 use Rattle.std.specs.Ordering.{is_lt, is_eq}
 use Rattle.predicates.specs.declared.sign.Sign.{Sign}
 use Rattle.predicates.specs.declared.sign.Sign.TheVariants.{Negative, Zero, Positive}
-use Rattle.predicates.proofs.FarSides.{f0, f1, f2, far-side01, far-side12}
-use Rattle.predicates.proofs.FlatSides.{flat_bc, flat_ca}
-use Rattle.predicates.proofs.NearCorners.{zero-times}
-use Rattle.predicates.proofs.Signs.{never-level, positive-along}
+use Rattle.predicates.proofs.FarOrientations.{valid-of}
+use Rattle.predicates.proofs.PointsApart.{place-corner, at-corner}
+use Rattle.predicates.proofs.Signs.{positive-along}
 use Rattle.tri_pages.specs.declared.tri_slot.TriSlot.{TriSlot}
 use Rattle.mesh.specs.Acrosses.{apex}
 use Rattle.mesh.specs.Net.{Side, first, second, third, after, corner_at}
@@ -50,39 +44,6 @@ signed_within s Negative h f = absurd (f refl)
 signed_within s Zero h f = omega (arith, ints, h)
 
 -- ---- a place on two edges is their corner
-place_corner : (z : Corner) (p : Coords) → IsKnown z → IsPlace p → p ≡ place_of z → z ≡ At p
-place_corner (At q) p known place e = ap At (sym e)
-place_corner (Far zero) p known place e = absurd (never-level (side f0 f1 p) (far-side01 p place) (flat_ca f0 f1 p e))
-place_corner (Far (suc zero)) p known place e = absurd (never-level (side f0 f1 p) (far-side01 p place) (flat_bc f0 f1 p (sym e)))
-place_corner (Far (suc (suc zero))) p known place e = absurd (never-level (side f1 f2 p) (far-side12 p place) (flat_bc f1 f2 p (sym e)))
-place_corner (Far (suc (suc (suc k)))) p known place e = absurd (beyond k known)
-  where
-    beyond : (k : ℕ) → suc (suc (suc k)) < 3 → ⊥
-    beyond k h = omega (arith, h)
-
--- the coordinates of p, by the corners of abc
-eastings : (a b c p : Coords) → side a b c *ℤ (p.e -ℤ a.e) ≡ side a b p *ℤ (c.e -ℤ a.e) +ℤ side c a p *ℤ (b.e -ℤ a.e)
-unfolding side
-eastings a b c p = ring (env (a ∷ b ∷ c ∷ p ∷ [])) (sideE 0 1 2 ⊗ (var 6 ⊖ var 0)) (sideE 0 1 3 ⊗ (var 4 ⊖ var 0) ⊕ sideE 2 0 3 ⊗ (var 2 ⊖ var 0)) refl
-
-northings : (a b c p : Coords) → side a b c *ℤ (p.n -ℤ a.n) ≡ side a b p *ℤ (c.n -ℤ a.n) +ℤ side c a p *ℤ (b.n -ℤ a.n)
-unfolding side
-northings a b c p = ring (env (a ∷ b ∷ c ∷ p ∷ [])) (sideE 0 1 2 ⊗ (var 7 ⊖ var 1)) (sideE 0 1 3 ⊗ (var 5 ⊖ var 1) ⊕ sideE 2 0 3 ⊗ (var 3 ⊖ var 1)) refl
-
-at_corner : (a b c p : Coords) → pos 0 <ℤ side a b c → side a b p ≡ pos 0 → side c a p ≡ pos 0 → p ≡ a
-at_corner a b c p turned ab ca =
-    same_coords p a (same p.e a.e (side a b c) (side a b p *ℤ (c.e -ℤ a.e)) (side c a p *ℤ (b.e -ℤ a.e)) (eastings a b c p) turned (zero-times (side a b p) (c.e -ℤ a.e) ab) (zero-times (side c a p) (b.e -ℤ a.e) ca))
-    (same p.n a.n (side a b c) (side a b p *ℤ (c.n -ℤ a.n)) (side c a p *ℤ (b.n -ℤ a.n)) (northings a b c p) turned (zero-times (side a b p) (c.n -ℤ a.n) ab) (zero-times (side c a p) (b.n -ℤ a.n) ca))
-  where
-    same : (x y v s t : ℤ) → v *ℤ (x -ℤ y) ≡ s +ℤ t → pos 0 <ℤ v → s ≡ pos 0 → t ≡ pos 0 → x ≡ y
-    same x y v s t e h f g = ⊎_elim (λ z. absurd (never-level v h z)) (λ z. equal x y z) (mul-eq-zero v (x -ℤ y) (e ∙ sum s t f g))
-      where
-        sum : (s t : ℤ) → s ≡ pos 0 → t ≡ pos 0 → s +ℤ t ≡ pos 0
-        sum s t f g = omega (arith, ints, f, g)
-
-        equal : (x y : ℤ) → x -ℤ y ≡ pos 0 → x ≡ y
-        equal x y e = omega (arith, ints, e)
-
 -- a triangle is counterclockwise from each of its edges
 pub left_from : (t : TriSlot) (k : Side) → IsTurned t → pos 0 <ℤ corner_side (corner_at t k) (corner_at t (after k)) (apex t k)
 left_from t first turned = turned.left
@@ -91,7 +52,7 @@ left_from t third turned = positive-along (corner_side (corner_at t third) (corn
 
 pub corner_is : (t : TriSlot) (k : Side) (p : Coords) → IsTurned t → IsPlace p → corner_side (corner_at t k) (corner_at t (after k)) (At p) ≡ pos 0 → corner_side (apex t k) (corner_at t k) (At p) ≡ pos 0 → corner_at t k ≡ At p
 corner_is t k p turned place ab ca =
-    place_corner (corner_at t k) p (turned.known k) place (at_corner (place_of (corner_at t k)) (place_of (corner_at t (after k))) (place_of (apex t k)) p (left_from t k turned) ab ca)
+    sym (place-corner (corner_at t k) p (valid-of (corner_at t k) (turned.known k)) place (at-corner (place_of (corner_at t k)) (place_of (corner_at t (after k))) (place_of (apex t k)) p (left_from t k turned) ab ca))
 
 pub zero_by : (b : Bool) (x : Sign) → b ≡ is_eq (order x) → b ≡ true → x ≡ Zero
 zero_by b Zero e h = refl
