@@ -1,0 +1,7 @@
+//! Points put into a locally Delaunay mesh, which is locally Delaunay after.
+//! It walks nowhere: the caller says where the place lies.
+#![tactic(auto)]
+
+mod insert;
+
+pub use insert::insert_point;
