@@ -3,5 +3,7 @@
 #![tactic(auto)]
 
 mod insert;
+mod laws;
 
 pub use insert::insert_point;
+pub use laws::{added_law, content_law};
