@@ -1,5 +1,9 @@
 pub mod Added
+pub mod Blocked
+pub mod Forms
 pub mod OnEdge
+pub mod Progress
 pub mod PutIn
 pub mod Shown
+pub mod Tops
 pub mod Written

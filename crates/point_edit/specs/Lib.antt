@@ -1,3 +1,4 @@
 pub mod Contents
 pub mod Insertions
 pub mod Results
+pub mod Stars

@@ -1,6 +1,7 @@
-//! Laws of the meshes that points are put into.
+//! Laws of the meshes that points are put into, and of the stars of points that are taken out.
 
 ghost use Rattle.point_edit.specs.Contents.{AddedLaw, ContentLaw};
+ghost use Rattle.point_edit.specs.Stars.{ProgressLaw};
 
 /// The triangles of a mesh over a content's points and counts are a sheet of it, and its facets are the
 /// content's.
@@ -12,4 +13,11 @@ pub fn content_law()
 /// it or runs over it but the two parts of the edge that it splits.
 pub fn added_law()
     ensures { AddedLaw }
+{}
+
+/// Flips bring the star of a point that has no counted edge down to three triangles, or to four with the point
+/// straight between two neighbours: while there are more, an edge at the point can be flipped, which takes one
+/// triangle from the star.
+pub fn progress_law()
+    ensures { ProgressLaw }
 {}
