@@ -33,7 +33,7 @@ unfolding side
 back p x y = ring (env (p ∷ x ∷ y ∷ [])) (sideE 0 1 2) (num (pos 0) ⊖ sideE 0 2 1) refl
 
 -- ---- numbers
-quotient : (a x s t : ℤ) → a *ℤ x ≡ s +ℤ t → pos 0 <ℤ a → pos 0 ≤ℤ s → pos 0 <ℤ t → pos 0 <ℤ x
+pub quotient : (a x s t : ℤ) → a *ℤ x ≡ s +ℤ t → pos 0 <ℤ a → pos 0 ≤ℤ s → pos 0 <ℤ t → pos 0 <ℤ x
 quotient a x s t e more h k = by_lt_z (pos 0) x (λ lt. lt) (λ le. absurd (never le))
   where
     none : (y s t : ℤ) → y ≡ s +ℤ t → y ≤ℤ pos 0 → pos 0 ≤ℤ s → pos 0 <ℤ t → ⊥
@@ -45,10 +45,10 @@ quotient a x s t e more h k = by_lt_z (pos 0) x (λ lt. lt) (λ le. absurd (neve
 turned-sum : (s t r : ℤ) → r ≡ s +ℤ t → r ≡ t +ℤ s
 turned-sum s t r e = omega (arith, ints, e)
 
-less-then : (x y : ℤ) → x ≡ pos 0 -ℤ y → y <ℤ pos 0 → pos 0 <ℤ x
+pub less-then : (x y : ℤ) → x ≡ pos 0 -ℤ y → y <ℤ pos 0 → pos 0 <ℤ x
 less-then x y e h = omega (arith, ints, e, h)
 
-not-more : (x y : ℤ) → x ≡ pos 0 -ℤ y → y ≤ℤ pos 0 → pos 0 ≤ℤ x
+pub not-more : (x y : ℤ) → x ≡ pos 0 -ℤ y → y ≤ℤ pos 0 → pos 0 ≤ℤ x
 not-more x y e h = omega (arith, ints, e, h)
 
 more-then : (x y : ℤ) → x ≡ pos 0 -ℤ y → pos 0 <ℤ y → x <ℤ pos 0
@@ -83,10 +83,10 @@ beyond p u w v y uw wv wide not_first not_last = by_lt_z (side p w y) (pos 0) (�
         }
 
 -- three places in a half-plane: the first is to the right of the last. f is the side of pq, or the other way round
-ahead : (p q x y z : Coords) → pos 0 <ℤ side p x y → pos 0 <ℤ side p y z → pos 0 <ℤ side p q x → pos 0 <ℤ side p q y → pos 0 ≤ℤ side p q z → pos 0 <ℤ side p x z
+pub ahead : (p q x y z : Coords) → pos 0 <ℤ side p x y → pos 0 <ℤ side p y z → pos 0 <ℤ side p q x → pos 0 <ℤ side p q y → pos 0 ≤ℤ side p q z → pos 0 <ℤ side p x z
 ahead p q x y z xy yz qx qy qz = quotient (side p q y) (side p x z) (side p x y *ℤ side p q z) (side p y z *ℤ side p q x) (ahead_sides p q x y z) qy (mul-nonneg (side p x y) (side p q z) (weaken (side p x y) xy) qz) (mul-positive (side p y z) (side p q x) yz qx)
 
-behind : (p q x y z : Coords) → pos 0 <ℤ side p x y → pos 0 <ℤ side p y z → pos 0 ≤ℤ side p x q → pos 0 <ℤ side p y q → pos 0 <ℤ side p z q → pos 0 <ℤ side p x z
+pub behind : (p q x y z : Coords) → pos 0 <ℤ side p x y → pos 0 <ℤ side p y z → pos 0 ≤ℤ side p x q → pos 0 <ℤ side p y q → pos 0 <ℤ side p z q → pos 0 <ℤ side p x z
 behind p q x y z xy yz xq yq zq = quotient (side p y q) (side p x z) (side p y z *ℤ side p x q) (side p x y *ℤ side p z q) (behind_sides p q x y z) yq (mul-nonneg (side p y z) (side p x q) (weaken (side p y z) yz) xq) (mul-positive (side p x y) (side p z q) xy zq)
 
 pub lt_or_eq : (d n : ℕ) → d ≤ n → (d < n) ⊎ (d ≡ n)

@@ -24,7 +24,7 @@ normE : ℕ → ℕ → Expr
 normE a b = (var (b + b) ⊖ var (a + a)) ⊗ (var (b + b) ⊖ var (a + a)) ⊕ (var (b + b + 1) ⊖ var (a + a + 1)) ⊗ (var (b + b + 1) ⊖ var (a + a + 1))
 
 -- u, v, o, x, y, z have numbers 0 to 5
-corner : (u v o x y z : Coords) → side x y z *ℤ (side u v y -ℤ side u v o) ≡ side o y z *ℤ (side u v y -ℤ side u v x) +ℤ side o x y *ℤ (side u v y -ℤ side u v z)
+pub corner : (u v o x y z : Coords) → side x y z *ℤ (side u v y -ℤ side u v o) ≡ side o y z *ℤ (side u v y -ℤ side u v x) +ℤ side o x y *ℤ (side u v y -ℤ side u v z)
 unfolding side
 corner u v o x y z = ring (env (u ∷ v ∷ o ∷ x ∷ y ∷ z ∷ [])) (sideE 3 4 5 ⊗ (sideE 0 1 4 ⊖ sideE 0 1 2)) (sideE 2 4 5 ⊗ (sideE 0 1 4 ⊖ sideE 0 1 3) ⊕ sideE 2 3 4 ⊗ (sideE 0 1 4 ⊖ sideE 0 1 5)) refl
 

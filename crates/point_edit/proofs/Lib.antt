@@ -5,5 +5,6 @@ pub mod OnEdge
 pub mod Progress
 pub mod PutIn
 pub mod Shown
+pub mod Straight
 pub mod Tops
 pub mod Written

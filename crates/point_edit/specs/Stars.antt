@@ -33,3 +33,7 @@ pub record ProgressLaw : Type 0 where
   pub three : (p : Coords) (ring : ℕ → Coords) (n : ℕ) → IsStar p ring n → 3 ≤ n
   pub more : (p : Coords) (ring : ℕ → Coords) (n : ℕ) → IsStar p ring n → 4 < n → HasFlippable p ring n
   pub four : (p : Coords) (ring : ℕ → Coords) (n : ℕ) → IsStar p ring n → n ≡ 4 → HasFlippable p ring n ⊎ IsStraightStar p ring n
+
+-- of a star whose neighbours 0 and m are on one line with p, with two or more between them on one side, one of these has an edge that can be flipped
+abbrev pub StraightLaw : Type 0
+StraightLaw = (p : Coords) (ring : ℕ → Coords) (n : ℕ) → IsStar p ring n → (m : ℕ) → 2 < m → m < n → side p (ring 0) (ring m) ≡ pos 0 → (k : ℕ) × ((suc k < m) × IsFlippableAfter p ring k)

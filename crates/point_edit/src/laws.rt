@@ -1,7 +1,7 @@
 //! Laws of the meshes that points are put into, and of the stars of points that are taken out.
 
 ghost use Rattle.point_edit.specs.Contents.{AddedLaw, ContentLaw};
-ghost use Rattle.point_edit.specs.Stars.{ProgressLaw};
+ghost use Rattle.point_edit.specs.Stars.{ProgressLaw, StraightLaw};
 
 /// The triangles of a mesh over a content's points and counts are a sheet of it, and its facets are the
 /// content's.
@@ -20,4 +20,10 @@ pub fn added_law()
 /// triangle from the star.
 pub fn progress_law()
     ensures { ProgressLaw }
+{}
+
+/// So they do with a point on a counted pair of edges that goes straight on: of two or more neighbours on one
+/// side of the pair, one has an edge that can be flipped.
+pub fn straight_law()
+    ensures { StraightLaw }
 {}

@@ -6,4 +6,4 @@ mod insert;
 mod laws;
 
 pub use insert::insert_point;
-pub use laws::{added_law, content_law, progress_law};
+pub use laws::{added_law, content_law, progress_law, straight_law};
