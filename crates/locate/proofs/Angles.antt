@@ -85,54 +85,61 @@ on_leg a b y h = sum (side a y b) (side y b a) (side b y a) (side a b y) (side-t
     sum : (s t u v : ℤ) → s ≡ t → u ≡ neg_ℤ t → v ≡ u → s <ℤ pos 0 → pos 0 <ℤ v
     sum s t u v e f g h = omega (arith, ints, e, f, g, h)
 
-one_index : (net : Net) → IsSheet net → (a b c : Coords) (x y : Corner) (t : InNet net (At a) (At b) (At c)) (u : InNet net (At a) x y)
-    → pos 0 ≤ℤ corner_side (At a) x (At b) → corner_side (At a) y (At b) <ℤ pos 0 → t.index ≡ u.index
+one_index : (net : Net) → IsSheet net → (a : Coords) (b c x y : Corner) (t : InNet net (At a) b c) (u : InNet net (At a) x y)
+    → pos 0 ≤ℤ corner_side (At a) x b → corner_side (At a) y b <ℤ pos 0 → t.index ≡ u.index
 one_index net sheet a b c x y t u leg other =
-    met net (closed net sheet) a (At b) (At c) (At a) x y t u (much a (place_of x) (place_of y) c) 1 (omega arith) (omega arith)
-    (Onward (flat_ca a (place_of x) a refl) (along_first a (place_of x) (place_of y) b c turned left on leg))
+    met net (closed net sheet) a b c (At a) x y t u (much a (place_of x) (place_of y) (place_of c)) 1 (omega arith) (omega arith)
+    (Onward (flat_ca a (place_of x) a refl) (along_first a (place_of x) (place_of y) (place_of b) (place_of c) turned left on leg))
     (Left (positive-along (side (place_of x) (place_of y) a) (side a (place_of x) (place_of y)) (sym (side-turned a (place_of x) (place_of y))) turned))
-    (Onward (flat_bc (place_of y) a a refl) (along_other a (place_of x) (place_of y) b c on))
+    (Onward (flat_bc (place_of y) a a refl) (along_other a (place_of x) (place_of y) (place_of b) (place_of c) on))
   where
     turned : pos 0 <ℤ side a (place_of x) (place_of y)
     turned = in-side net (closed net sheet) (At a) x y u
 
-    left : pos 0 <ℤ side a b c
-    left = in-side net (closed net sheet) (At a) (At b) (At c) t
+    left : pos 0 <ℤ side a (place_of b) (place_of c)
+    left = in-side net (closed net sheet) (At a) b c t
 
-    on : pos 0 <ℤ side a b (place_of y)
-    on = on_leg a b (place_of y) other
+    on : pos 0 <ℤ side a (place_of b) (place_of y)
+    on = on_leg a (place_of b) (place_of y) other
 
 -- so their last corners are
-one_third : (net : Net) → IsSheet net → (a b c : Coords) (x y : Corner) (t : InNet net (At a) (At b) (At c)) (u : InNet net (At a) x y)
-    → pos 0 ≤ℤ corner_side (At a) x (At b) → corner_side (At a) y (At b) <ℤ pos 0 → y ≡ At c
+one_third : (net : Net) → IsSheet net → (a : Coords) (b c x y : Corner) (t : InNet net (At a) b c) (u : InNet net (At a) x y)
+    → pos 0 ≤ℤ corner_side (At a) x b → corner_side (At a) y b <ℤ pos 0 → y ≡ c
 one_third net sheet a b c x y t u leg other =
     let index = one_index net sheet a b c x y t u leg other in
     let both : Some t.triangle ≡ Some u.triangle = sym t.at ∙ ap (slice_get net.triangles) index ∙ u.at in
     let one = same_in t.triangle u.triangle both in
-    turned-third t.triangle (At a) (At b) (At c) (At a) x y t.turn (subst (λ (z : Triangle). IsTurn z (At a) x y) (sym one) u.turn) refl (in-side net (closed net sheet) (At a) (At b) (At c) t)
+    turned-third t.triangle (At a) b c (At a) x y t.turn (subst (λ (z : Triangle). IsTurn z (At a) x y) (sym one) u.turn) refl (in-side net (closed net sheet) (At a) b c t)
 
 -- ---- of a mesh: the facet, where there is one, is the triangle whose angle its next corner lies in
-three_on : (k : Side) → after (after (after k)) ≡ k
+pub three_on : (k : Side) → after (after (after k)) ≡ k
 three_on first = refl
 three_on second = refl
 three_on third = refl
 
 module _ (slots : List State) (m : IsSheetMesh slots) where
-  last_side : (s s' : ℕ) (k k' : Side) (t t' : TriSlot) → triangle_at slots s ≡ Some t → triangle_at slots s' ≡ Some t' → corner_at t k ≡ corner_at t' k' → apex t k ≡ apex t' k' → (s ≡ s') × (k ≡ k')
+  -- two triangles with one last edge are one
+  pub last_side : (s s' : ℕ) (k k' : Side) (t t' : TriSlot) → triangle_at slots s ≡ Some t → triangle_at slots s' ≡ Some t' → corner_at t k ≡ corner_at t' k' → apex t k ≡ apex t' k' → (s ≡ s') × (k ≡ k')
   last_side s s' k k' t t' here there a c =
       let same = m.mesh.net.one s s' (after (after k)) (after (after k')) (edge t (after (after k))) (edge t' (after (after k')))
       (ap (λ o. edge_of o (after (after k))) (standing slots m.mesh s t here)) (ap (λ o. edge_of o (after (after k'))) (standing slots m.mesh s' t' there))
       c (thrice t k ∙ a ∙ sym (thrice t' k')) in
       (same.0, sym (three_on k) ∙ ap after same.1 ∙ three_on k')
 
+  -- of two triangles at a place the one has an edge into the angle of the other: they are one
+  pub one_angle : (a : Coords) (s s' : ℕ) (k k' : Side) (t t' : TriSlot) → triangle_at slots s ≡ Some t → triangle_at slots s' ≡ Some t' → corner_at t k ≡ At a → corner_at t' k' ≡ At a
+      → pos 0 ≤ℤ corner_side (At a) (corner_at t (after k)) (corner_at t' (after k')) → corner_side (At a) (apex t k) (corner_at t' (after k')) <ℤ pos 0 → (s ≡ s') × (k ≡ k')
+  one_angle a s s' k k' t t' here there at_a at_a' leg other =
+      last_side s s' k k' t t' here there (at_a ∙ sym at_a')
+      (one_third (net_in slots) (sheet_in slots m) a (corner_at t' (after k')) (apex t' k') (corner_at t (after k)) (apex t k)
+      (subst (λ (z : Corner). InNet (net_in slots) z (corner_at t' (after k')) (apex t' k')) at_a' (in_net slots m s' t' k' there))
+      (subst (λ (z : Corner). InNet (net_in slots) z (corner_at t (after k)) (apex t k)) at_a (in_net slots m s t k here)) leg other)
+
   pub one_facet : (s : ℕ) (k : Side) (t : TriSlot) (f : Facet) → triangle_at slots s ≡ Some t → corner_at t k ≡ At f.a → IsInAngle t k f.b → (s' : ℕ) → HasFacet slots s' f → IsFacetAt t k f
   one_facet s k t f here a angle s' h =
       let x = h.is.is in
-      let u = subst (λ z. z) (λ i. InNet (net_in slots) (x.a i) (x.b i) (x.c i)) (in_net slots m s' h.tri h.is.side h.there) in
-      let v = subst (λ (z : Corner). InNet (net_in slots) z (corner_at t (after k)) (apex t k)) a (in_net slots m s t k here) in
-      let third = one_third (net_in slots) (sheet_in slots m) f.a f.b f.c (corner_at t (after k)) (apex t k) u v
-      (subst (λ (z : Corner). pos 0 ≤ℤ corner_side z (corner_at t (after k)) (At f.b)) a angle.first_leg)
-      (subst (λ (z : Corner). corner_side z (apex t k) (At f.b) <ℤ pos 0) a angle.other_leg) in
-      let same = last_side s s' k h.is.side t h.tri here h.there (a ∙ sym x.a) (third ∙ sym x.c) in
+      let same = one_angle f.a s s' k h.is.side t h.tri here h.there a x.a
+      (subst (λ z. z) (λ i. pos 0 ≤ℤ corner_side (a i) (corner_at t (after k)) (sym x.b i)) angle.first_leg)
+      (subst (λ z. z) (λ i. corner_side (a i) (apex t k) (sym x.b i) <ℤ pos 0) angle.other_leg) in
       let tri = same_in t h.tri (sym here ∙ ap (triangle_at slots) same.0 ∙ h.there) in
       subst (λ z. z) (λ i. IsFacetAt (sym tri i) (sym same.1 i) f) x

@@ -1,14 +1,13 @@
 //! One step round a corner.
 
-ghost use Rattle.std.specs.Prelude.{◌≡◌, ◌<◌, true, Some};
+ghost use Rattle.std.specs.Prelude.{◌≡◌, ◌<◌, true};
 ghost use Rattle.mesh.specs.Net.{side};
 ghost use Rattle.mesh.specs.Sheets.{IsSheetMesh, IsTurned};
-ghost use Rattle.tri_pages.specs.Slots.{triangle_at};
 ghost use Rattle.locate.specs.Facets.{IsInAngle, IsRound, IsCornerOf};
 
 use crate::facet::is_facet_at;
 use crate::part::sign_of;
-use crate::sides::edge_before;
+use crate::round::next_round;
 use ground_model::{Facet, Place};
 use mesh::{Mesh, seen_from};
 use tri_pages::TriSlot;
@@ -34,20 +33,6 @@ fn is_in_angle(t: &TriSlot, corner: u8, place: Place) -> bool
     !first.is_negative() && other.is_negative()
 }
 
-// The next triangle round the corner, counterclockwise.
-fn turn(mesh: &Mesh, slot: u32, t: &TriSlot, corner: u8, facet: &Facet) -> Round
-    requires sheet { IsSheetMesh mesh.now.slots }
-    requires there { triangle_at mesh.now.slots slot ≡ Some t.now }
-    requires corner { IsCornerOf mesh.now.slots slot corner facet.now.a }
-    ensures { IsRound mesh.now.slots facet.now result }
-{
-    match mesh.across(slot, edge_before(corner)) {
-        Some(next) => Round::Next(next.slot, next.edge),
-        // An edge at a place is none of the far triangle's.
-        None => unreachable!(),
-    }
-}
-
 /// Asks the triangle of a slot, which has the facet's first corner. Where the facet's next corner
 /// lies in its angle there it decides: no other triangle has an edge into that angle.
 pub(crate) fn ask(mesh: &Mesh, facet: &Facet, slot: u32, corner: u8) -> Round
@@ -59,7 +44,8 @@ pub(crate) fn ask(mesh: &Mesh, facet: &Facet, slot: u32, corner: u8) -> Round
         unreachable!()
     };
     if !is_in_angle(&t, corner, facet.b) {
-        return turn(mesh, slot, &t, corner, facet);
+        let next = next_round(mesh, slot, corner, facet.a);
+        return Round::Next(next.slot, next.edge);
     }
     if is_facet_at(&t, corner, facet) {
         Round::Found(slot)

@@ -5,12 +5,14 @@
 mod around;
 mod facet;
 mod part;
+mod round;
 mod scan;
 mod search;
 mod sides;
 mod spot;
 mod walk;
 
+pub use round::next_round;
 pub use search::find;
 pub use spot::Spot;
 pub use walk::locate;

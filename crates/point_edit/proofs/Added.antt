@@ -1,33 +1,32 @@
 -- The counts of a content with a point more are those of the mesh that it was put into.
-use Rattle.std.proofs.Common.{◌≡◌, ℕ, zero, suc, ◌<◌, ◌⊎◌, inl, inr, refl, sym, ap, subst, ◌∙◌, arith, List, Bool, true, false, Some}
-use Rattle.std.specs.Prelude.{ℤ, not, ◌&&◌}
+use Rattle.std.proofs.Common.{◌≡◌, ℕ, zero, suc, ◌<◌, ◌⊎◌, inl, inr, refl, sym, ap, subst, ◌∙◌, arith, List, Bool, true, false}
+use Rattle.std.specs.Prelude.{not, ◌&&◌}
 use Rattle.std.proofs.lemmas.Bool.{both_ways as clash}
-use Rattle.ground_model.specs.declared.corner.Corner.{Corner}
 use Rattle.ground_model.specs.declared.corner.Corner.TheVariants.{At}
-use Rattle.ground_model.specs.Place.{Coords, IsPlace, is_same}
+use Rattle.ground_model.specs.Place.{Coords, is_same}
 use Rattle.ground_model.specs.Line.{Line, is_point}
 use Rattle.ground_model.specs.Table.{count_on}
 use Rattle.ground_model.specs.Crossings.{is_on_points}
 use Rattle.ground_model.proofs.Elements.{In}
 use Rattle.ground_model.proofs.LinePieces.{is_same_itself}
 use Rattle.ground_model.proofs.Ties.{same_of_is_same}
-use Rattle.predicates.specs.Net.{Net, times_in, edges_in, count_of}
+use Rattle.predicates.specs.Net.{Net}
 use Rattle.predicates.specs.Sheet.{IsSheet}
 use Rattle.cdt_law.proofs.Counts.{both_ways}
 use Rattle.cdt_law.proofs.LineTimes.{AreNext}
-use Rattle.cdt_law.proofs.PointCounts.{Between, between-or-not, next-clear, both-even, none-between-counted, same-beside, half, Whole, whole-of}
+use Rattle.cdt_law.proofs.PointCounts.{Between, between-or-not, next-clear, both-even, none-between-counted, same-beside, half, whole-of}
 use Rattle.cdt_law.proofs.PointEdits.{none-at}
 use Rattle.cdt_law.proofs.Standing.{next-on}
 use Rattle.mesh.specs.NetChanges.{HaveSameCounts, HasOneMore, HasSplitEdge, IsPair}
 
-zero_by : (n : ℕ) → (0 < n → ⊥) → n ≡ 0
+pub zero_by : (n : ℕ) → (0 < n → ⊥) → n ≡ 0
 zero_by zero h = refl
 zero_by (suc n) h = absurd (h (omega arith))
 
-place_is : (p q : Coords) → (At p ≡ At q) → p ≡ q
+pub place_is : (p q : Coords) → (At p ≡ At q) → p ≡ q
 place_is p q e = cc
 
-is_it : (q p : Coords) → (q ≡ p) ⊎ (q ≡ p → ⊥)
+pub is_it : (q p : Coords) → (q ≡ p) ⊎ (q ≡ p → ⊥)
 is_it q p = by (is_same q p) refl
   where
     by : (t : Bool) → is_same q p ≡ t → (q ≡ p) ⊎ (q ≡ p → ⊥)

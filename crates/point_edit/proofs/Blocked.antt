@@ -1,6 +1,6 @@
 -- Of two strictly convex corners of a star that are no neighbours, one has an edge that can be flipped.
-use Rattle.std.proofs.Common.{◌≡◌, ◌⊎◌, ℕ, suc, zero, ◌<◌, ◌≤◌, ◌+◌, List, [], ◌∷◌, refl, sym, ap, subst, ◌∙◌, inl, inr, arith}
-use Rattle.std.specs.Prelude.{ℤ, pos, neg_ℤ, ◌+ℤ◌, ◌-ℤ◌, ◌*ℤ◌, ◌<ℤ◌, ◌≤ℤ◌}
+use Rattle.std.proofs.Common.{◌≡◌, ◌⊎◌, ℕ, suc, zero, ◌<◌, ◌≤◌, ◌+◌, [], ◌∷◌, refl, sym, ap, subst, ◌∙◌, inl, inr, arith}
+use Rattle.std.specs.Prelude.{ℤ, pos, ◌+ℤ◌, ◌-ℤ◌, ◌*ℤ◌, ◌<ℤ◌, ◌≤ℤ◌}
 use Rattle.std.proofs.lemmas.Int.{ints, by_lt_z}
 use Rattle.ground_model.specs.Place.{Coords}
 use Rattle.ground_model.specs.Side.{side}
@@ -8,7 +8,7 @@ use Rattle.ground_model.proofs.Circle.{env, sideE}
 use Rattle.ground_model.proofs.Ring.{num, ◌⊕◌, ◌⊖◌, ◌⊗◌, ring}
 use Rattle.ground_model.proofs.ZOrder.{mul-positive}
 use Rattle.predicates.proofs.Signs.{mul-nonneg, mul-mixed, weaken}
-use Rattle.point_edit.specs.Stars.{IsInAngle, IsStar, IsFlippableAfter}
+use Rattle.point_edit.specs.Stars.{IsInAngle, IsStar}
 
 -- p, u, w, v, y have numbers 0 to 4
 four_sides : (p u w v y : Coords) → side p w v *ℤ side p y u ≡ side p w y *ℤ side p v u +ℤ side p u w *ℤ side p v y

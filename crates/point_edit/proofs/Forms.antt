@@ -1,5 +1,5 @@
 -- Linear forms on places, and where three neighbours make a strictly convex corner.
-use Rattle.std.proofs.Common.{◌≡◌, ◌⊎◌, List, [], ◌∷◌, refl, sym, ap, subst, ◌∙◌, inl, inr, arith}
+use Rattle.std.proofs.Common.{◌≡◌, [], ◌∷◌, refl, sym, subst, ◌∙◌, inl, inr, arith}
 use Rattle.std.specs.Prelude.{ℕ, ℤ, pos, ◌+ℤ◌, ◌-ℤ◌, ◌*ℤ◌, ◌<ℤ◌, ◌≤ℤ◌, ◌+◌}
 use Rattle.std.proofs.lemmas.Int.{ints, by_lt_z}
 use Rattle.ground_model.specs.Place.{Coords}
@@ -33,7 +33,7 @@ unfolding side norm along alongE normE
 spread u v o x y = ring (env (u ∷ v ∷ o ∷ x ∷ y ∷ [])) (normE 0 1 ⊗ sideE 2 3 4) ((alongE 0 1 4 ⊖ alongE 0 1 2) ⊗ (sideE 0 1 4 ⊖ sideE 0 1 3) ⊖ (alongE 0 1 4 ⊖ alongE 0 1 3) ⊗ (sideE 0 1 4 ⊖ sideE 0 1 2)) refl
 
 -- ---- numbers
-zero_part : (b x s t : ℤ) → pos 0 <ℤ b → s ≡ b *ℤ x +ℤ t → s ≤ℤ pos 0 → pos 0 ≤ℤ (b *ℤ x) → pos 0 ≤ℤ t → x ≡ pos 0
+pub zero_part : (b x s t : ℤ) → pos 0 <ℤ b → s ≡ b *ℤ x +ℤ t → s ≤ℤ pos 0 → pos 0 ≤ℤ (b *ℤ x) → pos 0 ≤ℤ t → x ≡ pos 0
 zero_part b x s t more e low first_part rest = elim (mul-eq-zero b x (none (b *ℤ x) s t e low first_part rest)) as (λ _. x ≡ pos 0) [
   | inl f ↦ absurd (never b more f)
   | inr f ↦ f

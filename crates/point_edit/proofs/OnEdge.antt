@@ -4,14 +4,14 @@ use Rattle.std.specs.Prelude.{ℕ, ℤ, pos, neg_ℤ, ◌+ℤ◌, ◌-ℤ◌, �
 use Rattle.std.proofs.lemmas.Int.{ints}
 use Rattle.ground_model.specs.declared.corner.Corner.{Corner}
 use Rattle.ground_model.specs.declared.corner.Corner.TheVariants.{At}
-use Rattle.ground_model.specs.Corner.{corner_at as place_of, corner_side}
+use Rattle.ground_model.specs.Corner.{corner_at as place_of}
 use Rattle.ground_model.specs.Place.{Coords, IsPlace, is_before}
 use Rattle.std.specs.Ordering.{is_eq}
 use Rattle.ground_model.specs.Side.{side, orientation, is_on_segment}
 use Rattle.ground_model.proofs.Along.{Mean, mean_by}
 use Rattle.ground_model.proofs.Circle.{env, sideE}
 use Rattle.ground_model.proofs.Ring.{var, ◌⊕◌, ◌⊖◌, ◌⊗◌, ring}
-use Rattle.ground_model.proofs.Segments.{on_of_mean, not_after}
+use Rattle.ground_model.proofs.Segments.{on_of_mean}
 use Rattle.predicates.proofs.FarOrientations.{Flat, Three, Ends, AtEnd, flat}
 use Rattle.predicates.proofs.FlatSides.{flat_ab, flat_bc, flat_ca, side-back}
 use Rattle.cdt_law.proofs.LongerPieces.{Inside, one-before}

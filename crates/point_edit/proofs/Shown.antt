@@ -15,8 +15,8 @@ use Rattle.ground_model.specs.Table.{count_on}
 use Rattle.ground_model.proofs.Elements.{In, each_at}
 use Rattle.ground_model.proofs.LinePieces.{is_same_itself}
 use Rattle.ground_model.proofs.Ties.{same_of_is_same}
-use Rattle.predicates.specs.Net.{Net, net_over, count_of, times_in, edges_in}
-use Rattle.predicates.specs.Sheet.{IsSheet, IsLocallyDelaunay}
+use Rattle.predicates.specs.Net.{net_over, count_of}
+use Rattle.predicates.specs.Sheet.{IsLocallyDelaunay}
 use Rattle.cdt_law.specs.Point.{IsJoined}
 use Rattle.cdt_law.proofs.Counts.{both_ways}
 use Rattle.cdt_law.proofs.FacetLaws.{facet_law}
@@ -34,7 +34,7 @@ use Rattle.mesh.specs.NetChanges.{HasOneMore, HasSplitEdge}
 use Rattle.mesh.specs.Sheets.{IsSheetMesh, IsNetOf, net_in, triangles_of}
 use Rattle.mesh.proofs.NetOfMesh.{net_law, sheet_in}
 use Rattle.mesh.proofs.SheetLaw.{sheet_law, held_times}
-use Rattle.point_edit.specs.Contents.{IsOver, IsMeshOf, ShowsContent, ContentLaw, AddedLaw}
+use Rattle.point_edit.specs.Contents.{IsOver, IsMeshOf, ContentLaw, AddedLaw}
 use Rattle.point_edit.specs.Insertions.{IsPutIn}
 use Rattle.point_edit.proofs.Added.{within, on_edge}
 use Rattle.point_edit.proofs.OnEdge.{Ended, ended}

@@ -1,6 +1,6 @@
 -- On one side of a line through a point, with two or more neighbours there, an edge to one of these can be flipped.
-use Rattle.std.proofs.Common.{◌≡◌, ◌⊎◌, ℕ, suc, zero, ◌<◌, ◌≤◌, ◌+◌, List, [], ◌∷◌, refl, sym, ap, subst, ◌∙◌, inl, inr, arith}
-use Rattle.std.specs.Prelude.{ℤ, pos, ◌+ℤ◌, ◌-ℤ◌, ◌*ℤ◌, ◌<ℤ◌, ◌≤ℤ◌}
+use Rattle.std.proofs.Common.{◌≡◌, ℕ, suc, zero, ◌<◌, ◌≤◌, ◌+◌, [], ◌∷◌, refl, sym, ap, subst, ◌∙◌, inl, inr, arith}
+use Rattle.std.specs.Prelude.{ℤ, pos, ◌-ℤ◌, ◌*ℤ◌, ◌<ℤ◌, ◌≤ℤ◌}
 use Rattle.std.proofs.lemmas.Int.{ints, by_lt_z}
 use Rattle.ground_model.specs.Place.{Coords}
 use Rattle.ground_model.specs.Side.{side}
@@ -9,12 +9,12 @@ use Rattle.ground_model.proofs.Ring.{var, ◌⊖◌, ◌⊗◌, ring}
 use Rattle.ground_model.proofs.ZOrder.{mul-positive}
 use Rattle.predicates.proofs.FlatSides.{flat_bc, flat_ca}
 use Rattle.predicates.proofs.Signs.{mul-nonneg, mul-mixed, weaken}
-use Rattle.point_edit.specs.Stars.{IsStar, IsInAngle, IsFlippableAfter, StraightLaw}
+use Rattle.point_edit.specs.Stars.{IsStar, IsFlippableAfter, StraightLaw}
 use Rattle.point_edit.proofs.Blocked.{lt_or_eq, back, quotient, ahead, behind, less-then, not-more}
 use Rattle.point_edit.proofs.Forms.{corner}
 
 -- p, a, b, y, e have numbers 0 to 4
-swapped : (p a b y e : Coords) → side p a b *ℤ side p y e ≡ side p a y *ℤ side p b e -ℤ side p a e *ℤ side p b y
+pub swapped : (p a b y e : Coords) → side p a b *ℤ side p y e ≡ side p a y *ℤ side p b e -ℤ side p a e *ℤ side p b y
 unfolding side
 swapped p a b y e = ring (env (p ∷ a ∷ b ∷ y ∷ e ∷ [])) (sideE 0 1 2 ⊗ sideE 0 3 4) (sideE 0 1 3 ⊗ sideE 0 2 4 ⊖ sideE 0 1 4 ⊗ sideE 0 2 3) refl
 
@@ -24,7 +24,7 @@ dropped x s y e = (λ i. x -ℤ e i *ℤ y) ∙ none x y
     none : (x y : ℤ) → x -ℤ pos 0 *ℤ y ≡ x
     none x y = omega (arith, ints)
 
-split_gap : (b c : ℕ) → b ≤ c → (d : ℕ) × (b + d ≡ c)
+pub split_gap : (b c : ℕ) → b ≤ c → (d : ℕ) × (b + d ≡ c)
 split_gap zero c h = (c, omega arith)
 split_gap (suc b) zero h = absurd (omega (arith, h))
 split_gap (suc b) (suc c) h =

@@ -1,21 +1,20 @@
 -- Three strictly convex corners of a star.
-use Rattle.std.proofs.Common.{◌≡◌, ◌⊎◌, ℕ, suc, zero, ◌<◌, ◌≤◌, ◌+◌, ◌-◌, List, [], ◌∷◌, Bool, true, false, refl, sym, ap, subst, ◌∙◌, inl, inr, arith}
-use Rattle.std.specs.Prelude.{ℤ, pos, ◌+ℤ◌, ◌-ℤ◌, ◌*ℤ◌, ◌<ℤ◌, ◌≤ℤ◌, int_lt, ◌&&◌, ◌||◌}
+use Rattle.std.proofs.Common.{◌≡◌, ◌⊎◌, ℕ, suc, zero, ◌<◌, ◌≤◌, ◌+◌, List, [], ◌∷◌, Bool, true, refl, sym, ap, subst, ◌∙◌, inl, inr, arith}
+use Rattle.std.specs.Prelude.{ℤ, pos, ◌-ℤ◌, ◌<ℤ◌, ◌≤ℤ◌, int_lt, ◌&&◌, ◌||◌}
 use Rattle.std.specs.Ordering.{int_eq}
 use Rattle.std.specs.List.{list_any}
 use Rattle.std.proofs.lemmas.Int.{ints, by_lt_z}
 use Rattle.std.proofs.lemmas.Bool.Decides.{Decides-int_eq}
-use Rattle.std.proofs.lemmas.Bool.{and_parts, and_from, or_cases, or_left, or_right, both_ways as clash}
+use Rattle.std.proofs.lemmas.Bool.{and_parts, and_from, or_cases, or_left, or_right}
 use Rattle.ground_model.specs.Place.{Coords}
 use Rattle.ground_model.specs.Side.{side, is_left}
 use Rattle.ground_model.proofs.Elements.{In}
 use Rattle.predicates.proofs.NoFourInPlane.{is_left-from}
-use Rattle.predicates.proofs.FlatSides.{flat_bc, flat_ca, side-back}
-use Rattle.cdt_law.proofs.NearestPoint.{Last, last}
+use Rattle.cdt_law.proofs.NearestPoint.{last}
 use Rattle.cdt_law.proofs.RingAround.{no-half-plane}
 use Rattle.point_edit.proofs.Blocked.{lt_or_eq}
 use Rattle.point_edit.specs.Stars.{IsStar}
-use Rattle.point_edit.proofs.Forms.{along, norm, convex, not_flat, norm_more}
+use Rattle.point_edit.proofs.Forms.{along, convex, not_flat, norm_more}
 
 one_less : (n : ℕ) → 0 < n → (m : ℕ) × (n ≡ suc m)
 one_less zero h = absurd (omega (arith, h))

@@ -22,7 +22,7 @@ use Rattle.point_edit.specs.Results.{NamesWritten}
 abbrev Kept : List State → List State → List ℕ → ℕ → Type 0
 Kept old new script i = IsNamedFrom script 0 i ⊎ (face_at (slots_of new) i ≡ face_at (slots_of old) i)
 
-named : (xs : List ℕ) (j i : ℕ) → slice_get xs j ≡ Some i → IsNamedFrom xs 0 i
+pub named : (xs : List ℕ) (j i : ℕ) → slice_get xs j ≡ Some i → IsNamedFrom xs 0 i
 named xs j i at = record { index = j; later = omega arith; at = at }
 
 split_written : (old new : List State) (s f g : ℕ) (p : Corner) → IsSplit old new s f g p → NamesWritten old new (s ∷ f ∷ g ∷ [])

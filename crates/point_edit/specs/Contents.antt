@@ -1,9 +1,10 @@
 -- Meshes of contents.
-use Rattle.std.specs.Prelude.{ℤ, ◌≡◌, ℕ, List}
-use Rattle.ground_model.specs.declared.edit.Edit.TheVariants.{AddPoint}
+use Rattle.std.specs.Prelude.{ℤ, ◌≡◌, false, List}
+use Rattle.std.specs.List.{All}
+use Rattle.ground_model.specs.declared.edit.Edit.TheVariants.{AddPoint, RemovePoint}
 use Rattle.ground_model.specs.declared.facet.Facet.{Facet}
-use Rattle.ground_model.specs.Content.{Content, after, points_of}
-use Rattle.ground_model.specs.Line.{is_point}
+use Rattle.ground_model.specs.Content.{Content, after, points_of, lines_of}
+use Rattle.ground_model.specs.Line.{is_point, has_place}
 use Rattle.ground_model.specs.Mark.{is_among}
 use Rattle.ground_model.specs.Place.{Coords, IsPlace}
 use Rattle.ground_model.specs.Tri.{tri}
@@ -15,6 +16,7 @@ use Rattle.mesh.specs.Sheets.{IsSheetMesh, net_in, triangles_of}
 use Rattle.locate.specs.declared.spot.Spot.{Spot}
 use Rattle.locate.specs.Spots.{IsSpot}
 use Rattle.point_edit.specs.Insertions.{IsPutIn}
+use Rattle.point_edit.specs.Removals.{IsTakenOut}
 
 -- the net has the points of the content, and its counts
 pub record IsOver (c : Content) (net : Net) : Type 0 where
@@ -41,3 +43,8 @@ ContentLaw = (c : Content) (slots : List State) → IsMeshOf c slots → ShowsCo
 abbrev pub AddedLaw : Type 0
 AddedLaw = (c : Content) (p : Coords) (z : ℤ) (old new : List State) (spot : Spot) → IsJoined c → IsPlace p → IsSpot old p spot → IsMeshOf c old
     → IsSheetMesh new → IsLocallyDelaunay (net_in new) → IsPutIn old spot p (net_in old) (net_in new) → IsMeshOf (after c (AddPoint p z)) new
+
+-- a point that no line has, taken out of a mesh of a content, leaves a mesh of the content without it
+abbrev pub RemovedLaw : Type 0
+RemovedLaw = (c : Content) (p : Coords) (old new : List State) → IsJoined c → All (λ line. has_place p line ≡ false) (lines_of c) → IsMeshOf c old
+    → IsSheetMesh new → IsLocallyDelaunay (net_in new) → IsTakenOut (net_in old) (net_in new) p → IsMeshOf (after c (RemovePoint p)) new

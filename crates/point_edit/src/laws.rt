@@ -1,6 +1,6 @@
-//! Laws of the meshes that points are put into, and of the stars of points that are taken out.
+//! Laws of the meshes that points are put into and taken out of, and of the stars of points that are taken out.
 
-ghost use Rattle.point_edit.specs.Contents.{AddedLaw, ContentLaw};
+ghost use Rattle.point_edit.specs.Contents.{AddedLaw, ContentLaw, RemovedLaw};
 ghost use Rattle.point_edit.specs.Stars.{ProgressLaw, StraightLaw};
 
 /// The triangles of a mesh over a content's points and counts are a sheet of it, and its facets are the
@@ -13,6 +13,12 @@ pub fn content_law()
 /// it or runs over it but the two parts of the edge that it splits.
 pub fn added_law()
     ensures { AddedLaw }
+{}
+
+/// A point that no line has, taken out of a mesh of a content, leaves a mesh of the content after the point is
+/// removed: two pieces at it are parts of one that runs over it, and no other piece does.
+pub fn removed_law()
+    ensures { RemovedLaw }
 {}
 
 /// Flips bring the star of a point that has no counted edge down to three triangles, or to four with the point
