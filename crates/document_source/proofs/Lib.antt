@@ -1,0 +1,4 @@
+mod NoFault
+mod Origins
+mod Pieces
+mod Drafting
