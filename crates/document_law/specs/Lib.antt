@@ -1,0 +1,4 @@
+pub mod Drafts
+pub mod Surveyed
+pub mod Law
+pub mod Version
