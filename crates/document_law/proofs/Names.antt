@@ -15,6 +15,17 @@ use Rattle.landxml_read.proofs.Bytes.{and_is}
 use Rattle.landxml_read.proofs.Decodings.{decoding_more, decoding_ends}
 use Rattle.landxml_read.proofs.Encoded.{utf8_run_more}
 
+-- what holds in each state of UTF-8 holds in all
+at_each : (P : Utf8 → Type 0) → P Ready → P One → P Two → P Three → P AfterE0 → P AfterEd → P AfterF0 → P AfterF4 → (s : Utf8) → P s
+at_each P ready one two three after_e0 after_ed after_f0 after_f4 Ready = ready
+at_each P ready one two three after_e0 after_ed after_f0 after_f4 One = one
+at_each P ready one two three after_e0 after_ed after_f0 after_f4 Two = two
+at_each P ready one two three after_e0 after_ed after_f0 after_f4 Three = three
+at_each P ready one two three after_e0 after_ed after_f0 after_f4 AfterE0 = after_e0
+at_each P ready one two three after_e0 after_ed after_f0 after_f4 AfterEd = after_ed
+at_each P ready one two three after_e0 after_ed after_f0 after_f4 AfterF0 = after_f0
+at_each P ready one two three after_e0 after_ed after_f0 after_f4 AfterF4 = after_f4
+
 -- the text stands for the byte
 record Escaped (b : ℕ) (text : List ℕ) : Type 0 where
   decoding : (out name : List ℕ) → (after : List ℕ) × (decoding_run (Some (record no_decoding { out = out; name = name })) text ≡ Some (record no_decoding { out = out ++ b ∷ []; name = after }))
@@ -22,98 +33,28 @@ record Escaped (b : ℕ) (text : List ℕ) : Type 0 where
   utf8 : (s : Utf8) → utf8_run (Some s) text ≡ utf8_next s b
 
 ampersand : Escaped 38 (codes "&amp;")
-ampersand = record { decoding = λ out name. (codes "amp", refl); value = λ e. refl; utf8 = by }
-  where
-    by : (s : Utf8) → utf8_run (Some s) (codes "&amp;") ≡ utf8_next s 38
-    by Ready = refl
-    by One = refl
-    by Two = refl
-    by Three = refl
-    by AfterE0 = refl
-    by AfterEd = refl
-    by AfterF0 = refl
-    by AfterF4 = refl
+ampersand = record { decoding = λ out name. (codes "amp", refl); value = λ e. refl; utf8 = at_each (λ s. utf8_run (Some s) (codes "&amp;") ≡ utf8_next s 38) refl refl refl refl refl refl refl refl }
 
 less : Escaped 60 (codes "&lt;")
-less = record { decoding = λ out name. (codes "lt", refl); value = λ e. refl; utf8 = by }
-  where
-    by : (s : Utf8) → utf8_run (Some s) (codes "&lt;") ≡ utf8_next s 60
-    by Ready = refl
-    by One = refl
-    by Two = refl
-    by Three = refl
-    by AfterE0 = refl
-    by AfterEd = refl
-    by AfterF0 = refl
-    by AfterF4 = refl
+less = record { decoding = λ out name. (codes "lt", refl); value = λ e. refl; utf8 = at_each (λ s. utf8_run (Some s) (codes "&lt;") ≡ utf8_next s 60) refl refl refl refl refl refl refl refl }
 
 greater : Escaped 62 (codes "&gt;")
-greater = record { decoding = λ out name. (codes "gt", refl); value = λ e. refl; utf8 = by }
-  where
-    by : (s : Utf8) → utf8_run (Some s) (codes "&gt;") ≡ utf8_next s 62
-    by Ready = refl
-    by One = refl
-    by Two = refl
-    by Three = refl
-    by AfterE0 = refl
-    by AfterEd = refl
-    by AfterF0 = refl
-    by AfterF4 = refl
+greater = record { decoding = λ out name. (codes "gt", refl); value = λ e. refl; utf8 = at_each (λ s. utf8_run (Some s) (codes "&gt;") ≡ utf8_next s 62) refl refl refl refl refl refl refl refl }
 
 quote : Escaped 34 (codes "&quot;")
-quote = record { decoding = λ out name. (codes "quot", refl); value = λ e. refl; utf8 = by }
-  where
-    by : (s : Utf8) → utf8_run (Some s) (codes "&quot;") ≡ utf8_next s 34
-    by Ready = refl
-    by One = refl
-    by Two = refl
-    by Three = refl
-    by AfterE0 = refl
-    by AfterEd = refl
-    by AfterF0 = refl
-    by AfterF4 = refl
+quote = record { decoding = λ out name. (codes "quot", refl); value = λ e. refl; utf8 = at_each (λ s. utf8_run (Some s) (codes "&quot;") ≡ utf8_next s 34) refl refl refl refl refl refl refl refl }
 
 tab : Escaped 9 (codes "&#9;")
 unfolding lib.Utf8.encode
-tab = record { decoding = λ out name. (codes "#9", refl); value = λ e. refl; utf8 = by }
-  where
-    by : (s : Utf8) → utf8_run (Some s) (codes "&#9;") ≡ utf8_next s 9
-    by Ready = refl
-    by One = refl
-    by Two = refl
-    by Three = refl
-    by AfterE0 = refl
-    by AfterEd = refl
-    by AfterF0 = refl
-    by AfterF4 = refl
+tab = record { decoding = λ out name. (codes "#9", refl); value = λ e. refl; utf8 = at_each (λ s. utf8_run (Some s) (codes "&#9;") ≡ utf8_next s 9) refl refl refl refl refl refl refl refl }
 
 feed : Escaped 10 (codes "&#10;")
 unfolding lib.Utf8.encode
-feed = record { decoding = λ out name. (codes "#10", refl); value = λ e. refl; utf8 = by }
-  where
-    by : (s : Utf8) → utf8_run (Some s) (codes "&#10;") ≡ utf8_next s 10
-    by Ready = refl
-    by One = refl
-    by Two = refl
-    by Three = refl
-    by AfterE0 = refl
-    by AfterEd = refl
-    by AfterF0 = refl
-    by AfterF4 = refl
+feed = record { decoding = λ out name. (codes "#10", refl); value = λ e. refl; utf8 = at_each (λ s. utf8_run (Some s) (codes "&#10;") ≡ utf8_next s 10) refl refl refl refl refl refl refl refl }
 
 carriage : Escaped 13 (codes "&#13;")
 unfolding lib.Utf8.encode
-carriage = record { decoding = λ out name. (codes "#13", refl); value = λ e. refl; utf8 = by }
-  where
-    by : (s : Utf8) → utf8_run (Some s) (codes "&#13;") ≡ utf8_next s 13
-    by Ready = refl
-    by One = refl
-    by Two = refl
-    by Three = refl
-    by AfterE0 = refl
-    by AfterEd = refl
-    by AfterF0 = refl
-    by AfterF4 = refl
+carriage = record { decoding = λ out name. (codes "#13", refl); value = λ e. refl; utf8 = at_each (λ s. utf8_run (Some s) (codes "&#13;") ≡ utf8_next s 13) refl refl refl refl refl refl refl refl }
 
 -- a byte that is written as it is
 itself : (b : ℕ) → (b == 38) ≡ false → (b == 60) ≡ false → (b == 34) ≡ false → (b == 9) ≡ false → (b == 10) ≡ false → (b == 13) ≡ false → Escaped b (b ∷ [])
