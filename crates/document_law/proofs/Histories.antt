@@ -39,11 +39,11 @@ record IsWhole (limits : Limits) (c : Content) : Type 0 where
 
 -- causes that don't hold
 
-first_none : (found : Option Refusal) (rest : List (Option Refusal)) → first_of (found ∷ rest) ≡ None → (found ≡ None) × (first_of rest ≡ None)
+pub first_none : (found : Option Refusal) (rest : List (Option Refusal)) → first_of (found ∷ rest) ≡ None → (found ≡ None) × (first_of rest ≡ None)
 first_none None rest e = (refl, e)
 first_none (Some cause) rest e = cc
 
-when_none : (t : Bool) (cause : Refusal) → when t cause ≡ None → t ≡ false
+pub when_none : (t : Bool) (cause : Refusal) → when t cause ≡ None → t ≡ false
 when_none true cause e = cc
 when_none false cause e = refl
 
@@ -145,7 +145,7 @@ by_edit c limits (RemoveLine id) h typed lawful = record { points = h.points; fe
 places_apart : finmap.IsAntisymmetric place_cmp
 places_apart p q e = same_of_is_same p q (sym (same_test p q) ∙ ap is_eq e)
 
-get_within : {X : Type 0} (xs : List X) (k : ℕ) → k < length xs → (x : X) × (slice_get xs k ≡ Some x)
+pub get_within : {X : Type 0} (xs : List X) (k : ℕ) → k < length xs → (x : X) × (slice_get xs k ≡ Some x)
 get_within [] k lt = absurd (omega (arith, lt))
 get_within (x ∷ xs) zero lt = (x, refl)
 get_within (x ∷ xs) (suc k) lt = get_within xs k (omega (arith, lt))
@@ -171,6 +171,10 @@ module _ (limits : Limits) (h : List Entry) (legal : IsLegal limits h) (typed : 
 
   whole : IsWhole limits (content_of h)
   whole = subst (λ t. IsWhole limits (content_of t)) (take-length h) (front (length h) (omega arith))
+
+-- there are no more points than the limit
+pub room_for_points : (limits : Limits) (h : List Entry) (e : Exported) → IsShownBy limits h e → finmap.len (content_of h).points ≤ limits.points
+room_for_points limits h e shown = (whole limits h shown.legal shown.typed).few
 
 -- what such a history makes
 

@@ -23,3 +23,9 @@ pub mod Drawn
 pub mod Faced
 pub mod ReadBack
 pub mod Histories
+pub mod Partition
+pub mod Tables
+pub mod Rooms
+pub mod Insertions
+pub mod Logged
+pub mod Reload

@@ -2,3 +2,4 @@ pub mod Drafts
 pub mod Surveyed
 pub mod Law
 pub mod Version
+pub mod Reloaded

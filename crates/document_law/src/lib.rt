@@ -3,6 +3,7 @@
 #![tactic(auto)]
 
 ghost use Rattle.document_law.specs.Law.{DocumentLaw};
+ghost use Rattle.document_law.specs.Reloaded.{ReloadLaw};
 ghost use Rattle.document_law.specs.Version.{VersionLaw};
 
 /// The written document of a surveyed surface, read with the surface's origin given, is one draft and no other: the
@@ -16,4 +17,10 @@ pub fn document_law()
 /// are within the limit of a number of a document: so it is read back.
 pub fn version_law()
     ensures { VersionLaw }
+{}
+
+/// What is loaded from that draft, an edit for each point and then one for each line, is lawful under the version's
+/// limits or larger ones, and is written as the same text: its lines have other numbers, but the same facets are kept.
+pub fn reload_law()
+    ensures { ReloadLaw }
 {}
