@@ -1,5 +1,5 @@
 -- The lines of a draft are those that were written.
-use Rattle.std.proofs.Common.{◌≡◌, ◌-◌, Bool, true, false, ◌||◌, not, cond, List, [], ◌∷◌, ◌++◌, length, map, take, drop, Option, None, Some, refl, sym, ◌∙◌, ap, arith, length-append}
+use Rattle.std.proofs.Common.{◌≡◌, ◌-◌, Bool, true, false, not, cond, List, [], ◌∷◌, ◌++◌, length, map, take, drop, Option, None, Some, refl, sym, ◌∙◌, ap, arith, length-append}
 use Rattle.std.proofs.lemmas.Bool.Decides.{nat_tests}
 use Rattle.std.proofs.lemmas.List.{map-append}
 use Rattle.std.proofs.lemmas.List.Sums.{length-filter}
@@ -30,6 +30,8 @@ use Rattle.document_law.proofs.Sites.{site_at}
 use Rattle.document_law.proofs.Sketches.{ring_course, open_course, ring_courses, open_courses, courses}
 use Rattle.document_law.proofs.Fitting.{all_first, all_rest}
 use Rattle.document_law.proofs.Seen.{spot_back}
+use Rattle.document_law.proofs.Names.{neither}
+use Rattle.landxml_read.proofs.Bytes.{clash}
 
 -- a site as it is seen from the origin
 abbrev pub seen : Origin → Site → Coords
@@ -70,17 +72,9 @@ lines_are origin s (r ∷ rs) (c ∷ cs) are = λ i. line_is origin s r c are.0 
 
 -- cleaning leaves a whole line as it was
 
-neither : (a b : Bool) → (a || b) ≡ false → (a ≡ false) × (b ≡ false)
-neither true b e = cc
-neither false b e = (refl, e)
-
 other_way : (p q : Coords) → is_same p q ≡ false → is_same q p ≡ false
 other_way p q e = by (is_same q p) refl
   where
-    clash : (b : Bool) → b ≡ true → b ≡ false → ⊥
-    clash true x y = cc
-    clash false x y = cc
-
     by : (t : Bool) → is_same q p ≡ t → is_same q p ≡ false
     by false f = f
     by true f = absurd (clash (is_same p q) (ap (is_same p) (same_of_is_same q p f) ∙ is_same_itself p) e)

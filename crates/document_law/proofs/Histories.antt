@@ -142,7 +142,7 @@ by_edit c limits (RemoveLine id) h typed lawful = record { points = h.points; fe
 
 -- histories
 
-places_apart : finmap.IsAntisymmetric place_cmp
+pub places_apart : finmap.IsAntisymmetric place_cmp
 places_apart p q e = same_of_is_same p q (sym (same_test p q) ∙ ap is_eq e)
 
 pub get_within : {X : Type 0} (xs : List X) (k : ℕ) → k < length xs → (x : X) × (slice_get xs k ≡ Some x)

@@ -1,5 +1,5 @@
 -- All that is written of a surveyed surface stands at its points.
-use Rattle.std.proofs.Common.{◌≡◌, ℕ, zero, suc, Bool, true, false, ◌||◌, cond, List, [], ◌∷◌, ◌++◌, map, flat_map, Option, None, Some, refl, sym, ◌∙◌, ap, subst, arith, ℤ}
+use Rattle.std.proofs.Common.{◌≡◌, ℕ, zero, suc, Bool, true, false, cond, List, [], ◌∷◌, ◌++◌, map, flat_map, Option, None, Some, refl, sym, ◌∙◌, ap, subst, arith, ℤ}
 use Rattle.std.proofs.lemmas.Grind.{flat_map-append}
 use Rattle.std.specs.Prelude.{All, slice_get, option_map, unwrap_or}
 use Rattle.std.specs.List.{list_all, find}
@@ -12,7 +12,7 @@ use Rattle.ground_model.proofs.LinePieces.{is_same_itself}
 use Rattle.ground_model.proofs.Segments.{not_after}
 use Rattle.ground_model.proofs.Ties.{same_of_is_same}
 use Rattle.landxml_read.specs.declared.raw.Triple.{Triple}
-use Rattle.landxml_read.proofs.Bytes.{both}
+use Rattle.landxml_read.proofs.Bytes.{both, clash}
 use Rattle.landxml_write.specs.Exports.{Vertex, Exported, Ascend, is_vertex}
 use Rattle.landxml_write.specs.Text.{closed}
 use Rattle.document_law.specs.Drafts.{level_in, AreOnce}
@@ -24,19 +24,17 @@ use Rattle.document_law.proofs.Sketches.{ring_course, open_course, ring_courses,
 use Rattle.document_law.proofs.Fitting.{point_at, level_written, AreOverPoints, over_points, closed_there}
 use Rattle.document_law.proofs.Seen.{spot_back, AreKnown}
 use Rattle.document_law.proofs.SamePoints.{AreAll, is_written, known_more}
+use Rattle.document_law.proofs.Names.{neither}
+use Rattle.landxml_surface.specs.Heights.{is_same_spot, spot_of}
 
 -- points in order stand once
-
-never : (b : Bool) → b ≡ true → b ≡ false → ⊥
-never true a b = cc
-never false a b = cc
 
 not_same : (p q : Coords) → is_before p q ≡ true → is_same p q ≡ false
 not_same p q before = by (is_same p q) refl
   where
     by : (t : Bool) → is_same p q ≡ t → is_same p q ≡ false
     by false e = e
-    by true e = absurd (never (is_before p q) before (ap (is_before p) (sym (same_of_is_same p q e)) ∙ not_after p p (ap (is_before p) (same_of_is_same p q e) ∙ before)))
+    by true e = absurd (clash (is_before p q) before (ap (is_before p) (sym (same_of_is_same p q e)) ∙ not_after p p (ap (is_before p) (same_of_is_same p q e) ∙ before)))
 
 none_later : (p : Coords) (vs : List Vertex) → ((k : ℕ) (w : Vertex) → slice_get vs k ≡ Some w → is_before p w.0 ≡ true) → level_in vs p ≡ None
 none_later p [] later = refl
@@ -62,11 +60,11 @@ own_level (v ∷ vs) are (suc k) w e =
   where
     other : (t : Bool) → is_same w.0 v.0 ≡ t → level_in vs w.0 ≡ Some w.1 → is_same w.0 v.0 ≡ false
     other false same rest = same
-    other true same rest = absurd (clash (level_in vs w.0) rest (ap (level_in vs) (same_of_is_same w.0 v.0 same) ∙ are.0))
+    other true same rest = absurd (both_ways (level_in vs w.0) rest (ap (level_in vs) (same_of_is_same w.0 v.0 same) ∙ are.0))
       where
-        clash : (o : Option ℤ) → o ≡ Some w.1 → o ≡ None → ⊥
-        clash None a b = cc
-        clash (Some z) a b = cc
+        both_ways : (o : Option ℤ) → o ≡ Some w.1 → o ≡ None → ⊥
+        both_ways None a b = cc
+        both_ways (Some z) a b = cc
 
 -- what is written of the points is known
 
@@ -128,10 +126,6 @@ all_written e is ts same =
       written = λ q none. last (flat_map sites_of (courses e) ++ sites e) (sites e) q (ap (λ ss. is_written ss q) (sym same) ∙ none);
     }
   where
-    neither : (a b : Bool) → (a || b) ≡ false → b ≡ false
-    neither true b e = cc
-    neither false b e = e
-
     last : (xs ys : List Site) (q : Triple) → is_written (xs ++ ys) q ≡ false → is_written ys q ≡ false
     last [] ys q none = none
-    last (x ∷ xs) ys q none = last xs ys q (neither _ (is_written (xs ++ ys) q) none)
+    last (x ∷ xs) ys q none = last xs ys q (neither (is_same_spot (spot_of q) (record { n = x.0; e = x.1 })) (is_written (xs ++ ys) q) none).1

@@ -32,6 +32,7 @@ use Rattle.document_law.specs.Reloaded.{next_entry, logged}
 use Rattle.document_law.specs.Surveyed.{IsWholeLine}
 use Rattle.document_law.proofs.Insertions.{Points, inserted, AreNew, first_new, rest_new}
 use Rattle.document_law.proofs.Tables.{live_more}
+use Rattle.landxml_read.proofs.Bytes.{both}
 
 -- one entry more
 
@@ -129,11 +130,6 @@ none_missing points n [] e = refl
 none_missing points n (p ∷ ps) e =
     let h = both (is_point (finmap.keys points) p) (list_all (is_point (finmap.keys points)) ps) e in
     ap (λ t. cond (not t) (Some n) (position_from (λ p. not (finmap.contains_key points p)) (n + 1) ps)) (sym (is_point-keys points p) ∙ h.0) ∙ none_missing points (n + 1) ps h.1
-  where
-    both : (a b : Bool) → (a && b) ≡ true → (a ≡ true) × (b ≡ true)
-    both true true e = (refl, refl)
-    both true false e = cc
-    both false b e = cc
 
 none_where : {X : Type 0} (test : X → Bool) (xs : List X) → ((x : X) → In x xs → test x ≡ false) → find test xs ≡ None
 none_where test [] none = refl

@@ -99,16 +99,17 @@ decoding_on (b ∷ bs) out held =
 pub name_decoded : (name : List ℕ) → decoded (flat_map escape name) ≡ Some name
 name_decoded name = let d = decoding_on name [] [] in decoding_ends (flat_map escape name) (record no_decoding { out = name; name = d.0 }) d.1
 
+-- neither of two tests holds
+pub neither : (a b : Bool) → (a || b) ≡ false → (a ≡ false) × (b ≡ false)
+neither true b e = cc
+neither false b e = (refl, e)
+
 -- its bytes may stand in a value
 pub name_value : (name : List ℕ) → list_any is_control name ≡ false → list_all (is_in_value 34) (flat_map escape name) ≡ true
 name_value [] plain = refl
 name_value (b ∷ bs) plain =
     let p = neither (is_control b) (list_any is_control bs) plain in
     list_all-append (is_in_value 34) (escape b) (flat_map escape bs) ∙ and_is (list_all (is_in_value 34) (escape b)) (list_all (is_in_value 34) (flat_map escape bs)) ((escaped b).value p.0) (name_value bs p.1)
-  where
-    neither : (x y : Bool) → (x || y) ≡ false → (x ≡ false) × (y ≡ false)
-    neither true y e = cc
-    neither false y e = (refl, e)
 
 -- it is UTF-8 as the name is
 pub name_utf8 : (name : List ℕ) (o : Option Utf8) → utf8_run o (flat_map escape name) ≡ utf8_run o name

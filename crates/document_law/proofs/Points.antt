@@ -102,21 +102,21 @@ point_read e unit sk id v small fit s =
     let a = thousandths_text site.0 in
     let b = thousandths_text site.1 in
     let c = thousandths_text site.2 in
-    let b_at_ = b_at tag.offset a in
-    let c_at_ = b_at b_at_ b in
+    let second_at = b_at tag.offset a in
+    let third_at = b_at second_at b in
     let told = told_three tag.offset el tag.told a b c in
-    let q = opens 5 (more_words (more_words (more_words el)) ∷ in_points) (b_at c_at_ c) (record tag.tokens { at = c_at_ + length c }) told in
+    let q = opens 5 (more_words (more_words (more_words el)) ∷ in_points) (b_at third_at c) (record tag.tokens { at = third_at + length c }) told in
     let r = led_to q (codes "/P>\n") in
     let g = gathered_of tag.told in
     let P : List ℕ → Type 0 = λ bytes. To (at s) bytes 4 in_points unit (with_point (decimal id) site sk) in
-    let Q : Gathered → Type 0 = λ h. Holds unit (with_point (decimal id) site sk) (closed Point (with_text Point (word c_at_ c) (with_text Point (word b_at_ b) (with_text Point (word tag.offset a) h)))) in
+    let Q : Gathered → Type 0 = λ h. Holds unit (with_point (decimal id) site sk) (closed Point (with_text Point (word third_at c) (with_text Point (word second_at b) (with_text Point (word tag.offset a) h)))) in
     subst P (regroup (codes "<P id=\"") (decimal id) (codes "\">") (vertex_text e.head.origin v) (codes "/P>\n")) (record {
       state = record {
         offset = r.offset;
         tokens = r.tokens;
         told = r.told;
         quiet = site_quiet tag.offset el tag.told site fit tag.quiet;
-        holds = subst Q (sym tag.gathered) (holds_point unit sk (gathered_of s.told) s.offset (decimal id) (word tag.offset a) (word b_at_ b) (word c_at_ c) site (site_read tag.offset b_at_ c_at_ site fit) s.holds);
+        holds = subst Q (sym tag.gathered) (holds_point unit sk (gathered_of s.told) s.offset (decimal id) (word tag.offset a) (word second_at b) (word third_at c) site (site_read tag.offset second_at third_at site fit) s.holds);
       };
       run = run_both (at s) (stand 5 (in_point 0) tag.offset tag.tokens tag.told) (stand 4 in_points r.offset r.tokens r.told) (codes "<P id=\"" ++ (decimal id ++ codes "\">")) ((vertex_text e.head.origin v ++ 60 ∷ []) ++ codes "/P>\n") tag.run
           (run_both (stand 5 (in_point 0) tag.offset tag.tokens tag.told) q (stand 4 in_points r.offset r.tokens r.told) (vertex_text e.head.origin v ++ 60 ∷ []) (codes "/P>\n") (site_less_run 5 tag.offset el in_points tag.tokens tag.told site refl fit) (record { reads = refl; utf8 = refl }));

@@ -5,7 +5,7 @@ use Rattle.std.proofs.lemmas.List.Sums.{sum_by-cons}
 use Rattle.std.specs.Option.{option_or}
 use Rattle.std.specs.Prelude.{All, sum_by}
 use Rattle.std.specs.List.{filter}
-use Rattle.std.specs.Ordering.{is_eq, nat_cmp}
+use Rattle.std.specs.Ordering.{nat_cmp}
 use Rattle.std.specs.FinMap as finmap
 use Rattle.ground_model.specs.declared.edit.Edit.TheVariants.{AddLine}
 use Rattle.ground_model.specs.declared.entry.Entry.{Entry}
@@ -22,15 +22,14 @@ use Rattle.ground_model.specs.Tri.{facets, tri}
 use Rattle.ground_model.specs.Crossings.{lines_cross}
 use Rattle.ground_model.proofs.Contents.{places_total}
 use Rattle.ground_model.proofs.Elements.{In, each_at, of_filter, in_append}
-use Rattle.ground_model.proofs.Planar.{same_test, on_at}
-use Rattle.ground_model.proofs.Ties.{same_of_is_same}
+use Rattle.ground_model.proofs.Planar.{on_at}
 use Rattle.landxml_surface.specs.declared.draft.Draft.{Draft}
 use Rattle.landxml_write.specs.Exports.{Vertex}
 use Rattle.landxml_write.specs.Text.{document}
 use Rattle.document_law.specs.Drafts.{level_in, AreOnce, drafted, rings_first, IsSameSurface}
 use Rattle.document_law.specs.Reloaded.{edits_of, logged, faces_of, AreNoLess, ReloadLaw}
 use Rattle.document_law.specs.Surveyed.{IsWholeLine}
-use Rattle.document_law.proofs.Histories.{surveyed, room_for_points}
+use Rattle.document_law.proofs.Histories.{surveyed, room_for_points, places_apart}
 use Rattle.document_law.proofs.Insertions.{Points, inserted, AreNew, inserted_levels, inserted_count, entry_levels}
 use Rattle.document_law.proofs.Logged.{logged_more, point_edits, line_edits, add_points, AreAddable, add_lines}
 use Rattle.document_law.proofs.Partition.{sum_same, pieces_same, kept_same, document_same}
@@ -38,9 +37,6 @@ use Rattle.document_law.proofs.ReadBack.{document_law}
 use Rattle.document_law.proofs.Rooms.{IsRoomy, roomy}
 
 -- the points of the draft are those of the content
-
-places_apart : finmap.IsAntisymmetric place_cmp
-places_apart p q e = same_of_is_same p q (sym (same_test p q) ∙ ap is_eq e)
 
 none_or : (o : Option ℤ) → option_or o None ≡ o
 none_or None = refl

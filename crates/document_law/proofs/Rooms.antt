@@ -31,6 +31,7 @@ use Rattle.ground_model.proofs.Past.{content_of-next}
 use Rattle.ground_model.proofs.Planar.{planar-empty, planar-after}
 use Rattle.document_law.proofs.Histories.{first_none, when_none, get_within}
 use Rattle.document_law.proofs.Tables.{live_more, sum_less}
+use Rattle.document_law.proofs.Names.{neither}
 
 -- lines, their places and entries are within their limits after so many entries, and there is an entry for each point and line
 pub record IsRoomy (limits : Limits) (k : ℕ) (c : Content) : Type 0 where
@@ -46,10 +47,6 @@ record IsRoomFor (c : Content) (limits : Limits) (line : Line) : Type 0 where
   places : length line.places ≤ limits.places
   vertices : places_together c.table + length line.places ≤ limits.vertices
   lines : finmap.len c.table.lines < limits.lines
-
-neither : (a b : Bool) → (a || b) ≡ false → (a ≡ false) × (b ≡ false)
-neither true b e = cc
-neither false b e = (refl, e)
 
 full_of : (short again place full many itself other : Option Refusal) → first_of (short ∷ again ∷ place ∷ full ∷ many ∷ itself ∷ other ∷ []) ≡ None → (full ≡ None) × (many ≡ None)
 full_of short again place full many itself other h =

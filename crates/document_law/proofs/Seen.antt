@@ -15,6 +15,7 @@ use Rattle.landxml_surface.specs.Origins.{from_origin}
 use Rattle.landxml_write.specs.Exports.{Vertex}
 use Rattle.document_law.specs.Drafts.{level_in}
 use Rattle.document_law.proofs.Holds.{Site, site_of}
+use Rattle.landxml_read.proofs.Bytes.{both}
 
 -- tests of numbers and of places
 
@@ -56,14 +57,9 @@ spot_back origin p =
     let e : (p.e +ℤ origin.e.0) -ℤ origin.e.0 ≡ p.e = omega (arith, ints) in
     λ i. record { e = e i; n = n i }
 
-both_are : (a b : Bool) → (a && b) ≡ true → (a ≡ true) × (b ≡ true)
-both_are true true e = (refl, refl)
-both_are true false e = cc
-both_are false b e = cc
-
 same_spot : (p q : Triple) → is_same_spot (spot_of p) (spot_of q) ≡ true → spot_of p ≡ spot_of q
 same_spot p q e =
-    let h = both_are (int_eq p.n.0 q.n.0) (int_eq p.e.0 q.e.0) e in
+    let h = both (int_eq p.n.0 q.n.0) (int_eq p.e.0 q.e.0) e in
     let n = int_same p.n.0 q.n.0 h.0 in
     let east = int_same p.e.0 q.e.0 h.1 in
     λ i. record { n = n i; e = east i }

@@ -58,16 +58,16 @@ face_read e unit sk f fit s =
     let x = id_of e.points f.0.a in
     let y = id_of e.points f.0.b in
     let z = id_of e.points f.0.c in
-    let b_at_ = b_at tag.offset (decimal x) in
-    let c_at_ = b_at b_at_ (decimal y) in
+    let second_at = b_at tag.offset (decimal x) in
+    let third_at = b_at second_at (decimal y) in
     let told = told_three tag.offset el tag.told (decimal x) (decimal y) (decimal z) in
-    let q = opens 5 (more_words (more_words (more_words el)) ∷ in_faces) (b_at c_at_ (decimal z)) (record tag.tokens { at = c_at_ + length (decimal z) }) told in
+    let q = opens 5 (more_words (more_words (more_words el)) ∷ in_faces) (b_at third_at (decimal z)) (record tag.tokens { at = third_at + length (decimal z) }) told in
     let r = led_to q (codes "/F>\n") in
     let P : List ℕ → Type 0 = λ bytes. To (at s) bytes 4 in_faces unit (with_face (ids_of e.points f) sk) in
-    let Q : Gathered → Type 0 = λ h. Holds unit (with_face (ids_of e.points f) sk) (closed Face (with_text Face (word c_at_ (decimal z)) (with_text Face (word b_at_ (decimal y)) (with_text Face (word tag.offset (decimal x)) h)))) in
+    let Q : Gathered → Type 0 = λ h. Holds unit (with_face (ids_of e.points f) sk) (closed Face (with_text Face (word third_at (decimal z)) (with_text Face (word second_at (decimal y)) (with_text Face (word tag.offset (decimal x)) h)))) in
     let good_x = id_good Face x refl fit.a tag.offset (tag.offset + length (decimal x)) in
-    let good_y = id_good Face y refl fit.b b_at_ (b_at_ + length (decimal y)) in
-    let good_z = id_good Face z refl fit.c c_at_ (c_at_ + length (decimal z)) in
+    let good_y = id_good Face y refl fit.b second_at (second_at + length (decimal y)) in
+    let good_z = id_good Face z refl fit.c third_at (third_at + length (decimal z)) in
     let quiet = tag.quiet in
     subst P (regroup (face_tag f.1) (decimal x) (decimal y) (decimal z) (codes "/F>\n")) (record {
       state = record {
@@ -75,7 +75,7 @@ face_read e unit sk f fit s =
         tokens = r.tokens;
         told = r.told;
         quiet = λ i. good_z i ++ (good_y i ++ (good_x i ++ quiet i));
-        holds = subst Q (sym tag.gathered) (holds_face unit sk (gathered_of s.told) s.offset [] (word tag.offset (decimal x)) (word b_at_ (decimal y)) (word c_at_ (decimal z)) s.holds);
+        holds = subst Q (sym tag.gathered) (holds_face unit sk (gathered_of s.told) s.offset [] (word tag.offset (decimal x)) (word second_at (decimal y)) (word third_at (decimal z)) s.holds);
       };
       run = run_both (at s) (stand 5 (in_face 0) tag.offset tag.tokens tag.told) (stand 4 in_faces r.offset r.tokens r.told) (face_tag f.1) ((three_text (decimal x) (decimal y) (decimal z) ++ 60 ∷ []) ++ codes "/F>\n") tag.run
           (run_both (stand 5 (in_face 0) tag.offset tag.tokens tag.told) q (stand 4 in_faces r.offset r.tokens r.told) (three_text (decimal x) (decimal y) (decimal z) ++ 60 ∷ []) (codes "/F>\n")

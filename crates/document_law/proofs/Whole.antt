@@ -123,6 +123,10 @@ whole_read e fit =
 
 -- what the document is read as
 
+abbrev told_by : Option Reading → List Event
+told_by None = []
+told_by (Some r) = r.told
+
 pub document_lists : (e : Exported) (r : WholeRead e) (doc : RawDoc) → IsRead (document e) doc → (doc.unit ≡ e.head.unit) × (doc.surfaces ≡ r.surface ∷ [])
 document_lists e r doc is =
     let tree = is.1 in
@@ -131,10 +135,6 @@ document_lists e r doc is =
       is.2.unit ∙ sym (unit_told is.0) ∙ ap (λ t. unit_or_meter (gathered_of t).unit) (sym told) ∙ ap unit_or_meter r.unit,
       is.2.surfaces ∙ sym (surfaces_told is.0) ∙ ap (λ t. (gathered_of t).surfaces) (sym told) ∙ r.surfaces,
     )
-  where
-    told_by : Option Reading → List Event
-    told_by None = []
-    told_by (Some r) = r.told
 
 pub document_is_read : (e : Exported) (r : WholeRead e) → IsRead (document e) (record { unit = e.head.unit; surfaces = r.surface ∷ [] })
 document_is_read e r =
@@ -152,7 +152,3 @@ document_is_read e r =
         surfaces = sym r.surfaces ∙ ap (λ t. (gathered_of t).surfaces) told ∙ surfaces_told d.0;
       },
     )
-  where
-    told_by : Option Reading → List Event
-    told_by None = []
-    told_by (Some r) = r.told
