@@ -3,3 +3,4 @@ mod Digits
 mod Found
 mod Shown
 mod Faces
+mod Sizes

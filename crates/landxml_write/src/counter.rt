@@ -28,7 +28,8 @@ fn digits(number: u64) -> u64
 
 // How many bytes the text of so many thousandths has: a minus, the whole part, a point and three digits.
 fn thousandths_len(value: i64) -> u64
-    ensures { result ≡ length (thousandths_text value) }
+    ensures count { result ≡ length (thousandths_text value) }
+    ensures fits { result ≤ 25 }
 {
     let sign = if value < 0 { 1 } else { 0 };
     sign + digits(value.unsigned_abs() / 1000) + 4

@@ -1,9 +1,10 @@
 //! The whole document.
 
-ghost use Rattle.std.specs.Prelude.{◌≡◌, ◌<◌, ◌^◌, ◌++◌, [], false, codes, length};
+ghost use Rattle.std.specs.Prelude.{◌≡◌, ◌+◌, ◌*◌, ◌≤◌, ◌<◌, ◌^◌, ◌++◌, [], false, codes, length};
 ghost use Rattle.ground_io.specs.Causes.{HasCause};
 ghost use Rattle.ground_io.specs.Order.{SendsText};
 ghost use Rattle.ground_io.specs.Streams.{WritesText};
+ghost use Rattle.landxml_write.specs.Sizes.{AreShort, places_in};
 ghost use Rattle.landxml_write.specs.Text.{document};
 
 use crate::counter::Counter;
@@ -17,7 +18,8 @@ use ground_io::{Failed, Sink};
 
 // The document's text.
 fn put_document<E: Export, O: Output>(out: &mut O, export: &E)
-    ensures { O.Takes out.old out.new (document (E.shown export.now)) }
+    ensures takes { O.Takes out.old out.new (document (E.shown export.now)) }
+    ensures short { AreShort (E.shown export.now) }
 {
     put_head(out, export.head());
     put_source(out, export);
@@ -51,11 +53,17 @@ pub fn write_surface<E: Export, S: Sink>(export: &E, sink: &mut S) -> Result<(),
     write_document(export, &mut writer)
 }
 
-/// How many bytes the document has, counted without its text being made. Takes no memory.
+/// How many bytes the document has, as long as that is a number of 64 bits, counted without its text
+/// being made. It always is one where the lines together have fewer than 2^48 places. Takes no memory.
 pub fn surface_len<E: Export>(export: &E) -> u64
-    requires { length (document (E.shown export.now)) < 2 ^ 64 }
-    ensures { result ≡ length (document (E.shown export.now)) }
+    ensures bound { length (document (E.shown export.now)) ≤ 2 ^ 50 + 256 * places_in (E.shown export.now).lines }
+    ensures value { length (document (E.shown export.now)) < 2 ^ 64 → result ≡ length (document (E.shown export.now)) }
 {
+    // Only the proof reads these: they bound the text.
+    let _name = export.head().name.len();
+    let _points = export.points();
+    let _lines = export.lines();
+    let _faces = export.faces();
     let mut counter = Counter::new();
     put_document(&mut counter, export);
     counter.get()

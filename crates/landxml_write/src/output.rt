@@ -3,7 +3,7 @@
 /// A writer or a counter. It takes each piece, whatever becomes of it: a writer whose write failed
 /// passes over the rest.
 pub(crate) trait Output {
-    ghost use Rattle.std.specs.Prelude.{ℕ, ◌++◌, [], List};
+    ghost use Rattle.std.specs.Prelude.{ℕ, ◌≤◌, ◌++◌, [], List, length};
     ghost use Rattle.std.specs.Fmt.{decimal};
     ghost use Rattle.ground_num.specs.Decimal.{thousandths_text};
 
@@ -20,7 +20,8 @@ pub(crate) trait Output {
 
     /// Takes the number of thousandths.
     fn put_thousandths(&mut self, value: i64)
-        ensures { Takes self.old self.new (thousandths_text value) };
+        ensures takes { Takes self.old self.new (thousandths_text value) }
+        ensures short { length (thousandths_text value) ≤ 25 };
 
     /// Nothing was taken.
     ghost takes_none: { (x : Self) → Takes x x [] };

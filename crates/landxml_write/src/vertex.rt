@@ -1,6 +1,6 @@
 //! Places with their levels, as a document has them.
 
-ghost use Rattle.std.specs.Prelude.{◌≡◌, ◌^◌, ◌+ℤ◌};
+ghost use Rattle.std.specs.Prelude.{◌≡◌, ◌≤◌, ◌^◌, ◌+ℤ◌, length};
 ghost use Rattle.ground_num.specs.Head.{IsOrigin};
 ghost use Rattle.ground_num.specs.Decimal.{IsWithin, thousandths_text};
 ghost use Rattle.landxml_write.specs.Text.{vertex_text};
@@ -20,20 +20,23 @@ fn with_origin(coordinate: i32, origin: Thousandths) -> i64
 
 fn put_northing<O: Output>(out: &mut O, origin: &Origin, place: Place)
     requires { IsOrigin origin.now }
-    ensures { O.Takes out.old out.new (thousandths_text (place.n +ℤ origin.now.n.0)) }
+    ensures takes { O.Takes out.old out.new (thousandths_text (place.n +ℤ origin.now.n.0)) }
+    ensures short { length (thousandths_text (place.n +ℤ origin.now.n.0)) ≤ 25 }
 {
     out.put_thousandths(with_origin(place.n(), origin.n));
 }
 
 fn put_easting<O: Output>(out: &mut O, origin: &Origin, place: Place)
     requires { IsOrigin origin.now }
-    ensures { O.Takes out.old out.new (thousandths_text (place.e +ℤ origin.now.e.0)) }
+    ensures takes { O.Takes out.old out.new (thousandths_text (place.e +ℤ origin.now.e.0)) }
+    ensures short { length (thousandths_text (place.e +ℤ origin.now.e.0)) ≤ 25 }
 {
     out.put_thousandths(with_origin(place.e(), origin.e));
 }
 
 fn put_level<O: Output>(out: &mut O, level: Level)
-    ensures { O.Takes out.old out.new (thousandths_text level) }
+    ensures takes { O.Takes out.old out.new (thousandths_text level) }
+    ensures short { length (thousandths_text level) ≤ 25 }
 {
     out.put_thousandths(i64::from(level.get()));
 }
@@ -49,7 +52,8 @@ pub(crate) fn origin_of<E: Export>(export: &E) -> &Origin
 /// The northing, the easting and the level.
 pub(crate) fn put_vertex<O: Output>(out: &mut O, origin: &Origin, place: Place, level: Level)
     requires { IsOrigin origin.now }
-    ensures { O.Takes out.old out.new (vertex_text origin.now (place, level)) }
+    ensures takes { O.Takes out.old out.new (vertex_text origin.now (place, level)) }
+    ensures short { length (vertex_text origin.now (place, level)) ≤ 80 }
 {
     put_northing(out, origin, place);
     out.put(b" ");

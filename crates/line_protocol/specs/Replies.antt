@@ -16,7 +16,7 @@ use Rattle.ground_model.specs.declared.cut.Cut.{Cut}
 use Rattle.ground_model.specs.declared.volume.Volume.{Volume as Volumes}
 use Rattle.ground_model.specs.Place.{Coords}
 use Rattle.line_protocol.specs.declared.reply.Reply.{Reply}
-use Rattle.line_protocol.specs.declared.reply.Reply.TheVariants.{Held, Planned, Done, Conflict, Refused, Level, Contour, Volume, Stat, Export, Bye, Syntax, Range, NoPlan, Memory, Unbuilt}
+use Rattle.line_protocol.specs.declared.reply.Reply.TheVariants.{Held, Planned, Done, Conflict, Refused, Level, Contour, Volume, Stat, Export, Bye, Syntax, Range, NoPlan, Memory}
 
 -- a space and a number
 abbrev pub spaced : ℕ → List ℕ
@@ -100,7 +100,6 @@ first_words o (Syntax k) = codes "error syntax" ++ spaced k
 first_words o Range = codes "error range"
 first_words o NoPlan = codes "error no-plan"
 first_words o Memory = codes "error memory"
-first_words o Unbuilt = codes "error unbuilt"
 
 -- further lines, each begun with a line end: those of a contour, one for each cut
 abbrev pub further_lines : Origin → Reply → List ℕ

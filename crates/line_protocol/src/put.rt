@@ -102,7 +102,6 @@ fn first_line(reply: &Reply, origin: &Origin) -> Text
         Reply::Range => text.add(b"error range"),
         Reply::NoPlan => text.add(b"error no-plan"),
         Reply::Memory => text.add(b"error memory"),
-        Reply::Unbuilt => text.add(b"error unbuilt"),
     }
     text
 }

@@ -36,6 +36,4 @@ pub enum Reply {
     NoPlan,
     /// Out of memory for the request.
     Memory,
-    /// The request is none that this program answers.
-    Unbuilt,
 }

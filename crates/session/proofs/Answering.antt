@@ -1,14 +1,25 @@
 -- The reads and writes of a session, and that it answers before it reads on.
-use Rattle.std.proofs.Common.{◌≡◌, ℕ, ◌⊎◌, inl, inr, ⊎_elim, List, [], ◌∷◌, ◌++◌, length, refl, sym, ap, subst, ◌∙◌, append_assoc, map}
-use Rattle.std.proofs.lemmas.List.{append-nil}
+use Rattle.std.proofs.Common.{◌≡◌, ℕ, ◌≤◌, ◌⊎◌, inl, inr, ⊎_elim, Bool, true, false, cond, List, [], ◌∷◌, ◌++◌, length, take, Option, None, Some, IfSome, is_some, refl, sym, ap, subst, ◌∙◌, append_assoc, arith, map}
+use Rattle.std.proofs.lemmas.List.{append-nil, take-append-le, take_all}
 use Rattle.std.specs.List.{concat, flat_map}
 use Rattle.ground_io.specs.Order.{Event, Received, Sent}
+use Rattle.ground_model.specs.declared.edit.Edit.{Edit}
 use Rattle.ground_model.specs.declared.entry.Entry.{Entry}
+use Rattle.ground_model.specs.Answer.{next_entry}
+use Rattle.ground_model.specs.History.{content_of}
+use Rattle.landxml_write.specs.Text.{document}
 use Rattle.line_protocol.specs.declared.reply.Reply.{Reply}
-use Rattle.turn_lock.specs.Setting.{Setting}
+use Rattle.line_protocol.specs.declared.reply.Reply.TheVariants.{Held, Planned, Done, Conflict, Refused, Level, Contour, Volume, Stat, Export, Bye, Syntax, Range, NoPlan, Memory}
+use Rattle.line_protocol.specs.Replies.{reply_text}
+use Rattle.store.specs.Shown.{shown_of, shown_by}
+use Rattle.turn_lock.specs.Setting.{Setting, setting}
+use Rattle.turn_lock.specs.declared.journal.Journal.{Journal}
 use Rattle.session.specs.Lines.{whole_lines}
 use Rattle.session.specs.Order.{received, sent, IsAnswered, AnswersInTime}
-use Rattle.session.specs.Texts.{text_at, texts}
+use Rattle.session.specs.Texts.{document_at, document_of, text_at, held_text, texts}
+use Rattle.session.specs.Told.{export_front, done_front}
+use Rattle.session.specs.Talking.{Position, ServesLine, with_entry, entries_after}
+use Rattle.session.proofs.Exchanges.{export_here, IsThere, AreThere}
 
 -- ---- what was received and sent
 
@@ -45,13 +56,73 @@ sent-read es bytes = sent-append es (Received bytes ∷ []) ∙ append-nil (sent
 
 -- ---- texts
 
--- the texts of the replies so far stay the same where the history goes on
-pub text_at-any : (set : Setting) (h k : List Entry) (reply : Reply) → text_at set h reply ≡ text_at set k reply
-unfolding text_at
-text_at-any set h k reply = refl
+document-longer : (set : Setting) (h more : List Entry) (front : Option ℕ) → IfSome front (λ f. f ≤ length h) → document_of (document_at set.head (h ++ more)) front ≡ document_of (document_at set.head h) front
+document-longer set h more None there = refl
+document-longer set h more (Some f) there = ap (λ xs. document (shown_of set.head (content_of xs))) (take-append-le f h more there)
 
-pub texts-any : (set : Setting) (h k : List Entry) (replies : List Reply) → texts set h replies ≡ texts set k replies
-texts-any set h k replies = ap (λ text. flat_map text replies) (λ i reply. text_at-any set h k reply i)
+-- the texts of the replies so far stay the same where the history goes on
+pub text_at-longer : (set : Setting) (h more : List Entry) (reply : Reply) → IsThere h reply → text_at set (h ++ more) reply ≡ text_at set h reply
+unfolding text_at
+text_at-longer set h more reply there = ap (λ text. reply_text set.head.origin reply ++ text) (document-longer set h more (export_front reply) there)
+
+pub texts-longer : (set : Setting) (h more : List Entry) (replies : List Reply) → AreThere h replies → texts set (h ++ more) replies ≡ texts set h replies
+texts-longer set h more [] there = refl
+texts-longer set h more (reply ∷ replies) there = (λ i. text_at-longer set h more reply there.0 i ++ texts-longer set h more replies there.1 i)
+
+there-front : (h : List Entry) (replies later : List Reply) → AreThere h (replies ++ later) → AreThere h replies
+there-front h [] later there = tt
+there-front h (reply ∷ replies) later there = (there.0, there-front h replies later there.1)
+
+-- ---- the text of a reply by the session that holds the newest version
+
+document-held : (j : Journal) (front : Option ℕ) → IfSome front (λ f. f ≡ length j.entries) → document_of (λ _. document (shown_by j)) front ≡ document_of (document_at j.head j.entries) front
+document-held j None here = refl
+document-held j (Some f) here = ap (λ xs. document (shown_of j.head (content_of xs))) (sym (take_all f j.entries (omega (arith, here))))
+
+pub held-text : (j : Journal) (reply : Reply) → IfSome (export_front reply) (λ f. f ≡ length j.entries) → held_text j reply ≡ text_at (setting j) j.entries reply
+unfolding held_text text_at
+held-text j reply here = ap (λ text. reply_text j.head.origin reply ++ text) (document-held j (export_front reply) here)
+
+export_makes_none : (reply : Reply) (f : ℕ) → export_front reply ≡ Some f → done_front reply ≡ None
+export_makes_none (Export f bytes) g e = refl
+export_makes_none (Held f) g e = cc
+export_makes_none (Planned f size) g e = cc
+export_makes_none (Done f line) g e = cc
+export_makes_none (Conflict f mark) g e = cc
+export_makes_none (Refused f cause) g e = cc
+export_makes_none (Level f z) g e = cc
+export_makes_none (Contour f cuts) g e = cc
+export_makes_none (Volume f v) g e = cc
+export_makes_none (Stat f points lines) g e = cc
+export_makes_none Bye g e = cc
+export_makes_none (Syntax offset) g e = cc
+export_makes_none Range g e = cc
+export_makes_none NoPlan g e = cc
+export_makes_none Memory g e = cc
+
+no_document : (j k : Journal) (reply : Reply) → setting j ≡ setting k → export_front reply ≡ None → held_text j reply ≡ held_text k reply
+unfolding held_text
+no_document j k reply same none =
+    rw none (ap (λ (set : Setting). reply_text set.head.origin reply ++ []) same)
+
+-- a line's reply by the session that holds the newest version after it
+pub line-held : (author : ℕ) (change : Position × Position) (line : List ℕ) (reply : Reply) → ServesLine author change line reply → held_text change.1.journal reply ≡ text_at (setting change.0.journal) change.0.journal.entries reply
+line-held author change line reply serves = by (export_front reply) refl ∙ held-text change.0.journal reply (export_here (setting change.0.journal) change.0.journal.entries change.0.pending line reply serves.is)
+  where
+    by : (front : Option ℕ) → export_front reply ≡ front → held_text change.1.journal reply ≡ held_text change.0.journal reply
+    by None is = no_document change.1.journal change.0.journal reply serves.stays is
+    by (Some f) is =
+        let kept : change.1.journal.entries ≡ change.0.journal.entries = rw (export_makes_none reply f is) at serves.entries in
+        ap (λ (j : Journal). held_text j reply) (λ i. record { head = (serves.stays i).head; limits = (serves.stays i).limits; entries = kept i })
+
+-- the entries after a reply begin with those before it
+pub entries-longer : (author : ℕ) (h : List Entry) (edit : Option Edit) (reply : Reply) → (more : List Entry) × (entries_after author h edit reply ≡ h ++ more)
+entries-longer author h edit reply = by (is_some (done_front reply)) edit
+  where
+    by : (made : Bool) (edit : Option Edit) → (more : List Entry) × (cond made (with_entry author h edit) h ≡ h ++ more)
+    by false edit = ([], sym (append-nil h))
+    by true None = ([], sym (append-nil h))
+    by true (Some e) = (next_entry author h e ∷ [], refl)
 
 pub texts_more : (set : Setting) (h : List Entry) (replies : List Reply) (reply : Reply) → texts set h (replies ++ reply ∷ []) ≡ texts set h replies ++ text_at set h reply
 texts_more set h [] reply = append-nil (text_at set h reply)
@@ -98,8 +169,8 @@ pub in_time_none : (set : Setting) (h : List Entry) (replies : List Reply) → A
 in_time_none set h replies before after bytes e = absurd (no_element before after (Received bytes) e)
 
 -- a reply more, which was written in one or several pieces
-pub in_time_sent : (set : Setting) (h k : List Entry) (es : List Event) (replies : List Reply) (pieces : List (List ℕ)) (reply : Reply) → AnswersInTime set h es replies → AnswersInTime set k (es ++ map Sent pieces) (replies ++ reply ∷ [])
-in_time_sent set h k es replies pieces reply t before after bytes e =
+pub in_time_sent : (set : Setting) (h more : List Entry) (es : List Event) (replies : List Reply) (pieces : List (List ℕ)) (reply : Reply) → AreThere h replies → AnswersInTime set h es replies → AnswersInTime set (h ++ more) (es ++ map Sent pieces) (replies ++ reply ∷ [])
+in_time_sent set h more es replies pieces reply there t before after bytes e =
     let found = read_before es pieces before after bytes e in
     let a = t before found.0 bytes found.1 in
     record {
@@ -107,7 +178,7 @@ in_time_sent set h k es replies pieces reply t before after bytes e =
       later = a.later ++ reply ∷ [];
       are = ap (λ rs. rs ++ reply ∷ []) a.are ∙ append_assoc a.answered a.later (reply ∷ []);
       each = a.each;
-      written = a.written ∙ texts-any set h k a.answered;
+      written = a.written ∙ sym (texts-longer set h more a.answered (there-front h a.answered a.later (subst (AreThere h) a.are there)));
     }
 
 -- a read, where all whole lines are answered

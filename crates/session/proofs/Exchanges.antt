@@ -1,7 +1,8 @@
 -- A session's transcript goes on by one exchange.
-use Rattle.std.proofs.Common.{◌≡◌, ℕ, suc, ◌+◌, ◌≤◌, inl, inr, true, false, cond, ◌==◌, List, [], ◌∷◌, ◌++◌, length, drop, Option, None, Some, refl, sym, ap, subst, ◌∙◌, arith, append_assoc, length-append, length-drop, IfSome}
+use Rattle.std.proofs.Common.{◌≡◌, ℕ, suc, ◌+◌, ◌≤◌, inl, inr, true, false, cond, ◌==◌, List, [], ◌∷◌, ◌++◌, length, take, drop, Option, None, Some, refl, sym, ap, subst, ◌∙◌, arith, append_assoc, length-append, length-drop, IfSome}
+use Rattle.std.specs.Bool.{⊤}
 use Rattle.std.proofs.Math.Seq.{take-append_seam}
-use Rattle.std.proofs.lemmas.List.{take-append-le, drop-append-le, append-nil}
+use Rattle.std.proofs.lemmas.List.{take-append-le, drop-append-le, append-nil, length-take-le}
 use Rattle.std.specs.Prelude.{IsSomeAnd, MatchOption, option_and_then}
 use Rattle.ground_model.specs.declared.edit.Edit.{Edit}
 use Rattle.ground_model.specs.declared.entry.Entry.{Entry}
@@ -13,6 +14,7 @@ use Rattle.ground_model.specs.declared.mark.Mark.{Mark}
 use Rattle.ground_model.specs.Answer.{Pending, answer, conflict, by_conflict, by_refusal, next_entry}
 use Rattle.ground_model.proofs.Newest.{answer-newest}
 use Rattle.line_protocol.specs.declared.reply.Reply.{Reply}
+use Rattle.line_protocol.specs.declared.reply.Reply.TheVariants.{Held, Planned, Done, Conflict, Refused, Level, Contour, Volume, Stat, Export, Bye, Syntax, Range, NoPlan, Memory}
 use Rattle.line_protocol.specs.declared.request.Request.{Request}
 use Rattle.line_protocol.specs.declared.request.Request.TheVariants as asks
 use Rattle.line_protocol.specs.Spoken.{Spoken}
@@ -20,7 +22,7 @@ use Rattle.line_protocol.specs.Grammar.{spoken}
 use Rattle.line_protocol.specs.Within.{request_within, request_of}
 use Rattle.store.proofs.Journals.{get_longer, get_last, legal_more}
 use Rattle.turn_lock.specs.Setting.{Setting, setting}
-use Rattle.session.specs.Told.{Told, told_nothing, told_after, pending_after, shown_after, front_of, done_front, front_list, fronts_told, edit_made}
+use Rattle.session.specs.Told.{Told, told_nothing, told_after, pending_after, shown_after, front_of, done_front, front_list, fronts_told, edit_made, export_front}
 use Rattle.session.specs.Table.{to_edit, to_plan, IsReply}
 use Rattle.session.specs.Transcript.{Sitting, Reading, Shown, Turned, Free, reading, IsFrontBy, IsFrontFor, IsFaultReply, IsAnswerWithin, AnswersLine, IsEntry, Exchange, Exchanges, fronts_by}
 use Rattle.session.specs.Talking.{Start, sitting, Position, ServesLine, entries_after, told_by, Going}
@@ -142,7 +144,7 @@ tells_request set h (Some plan) asks.Commit reply is = tells_by set h (Some plan
 tells_request set h pending (asks.Level p) reply is = rw is refl
 tells_request set h pending (asks.Contour z) reply is = rw is refl
 tells_request set h pending (asks.Volume z) reply is = rw is refl
-tells_request set h pending asks.Export reply is = rw is tt
+tells_request set h pending asks.Export reply is = rw is refl
 
 tells_within : (set : Setting) (h : List Entry) (pending : Option Pending) (r : Option Request) (reply : Reply) → IsAnswerWithin set h pending r reply → TellsOf set h (edit_made pending r) reply
 unfolding Tells TellsOf
@@ -158,6 +160,47 @@ tells_line : (set : Setting) (h : List Entry) (pending : Option Pending) (line :
 unfolding Tells TellsOf
 tells_line set h pending line None reply a = rw a.2 tt
 tells_line set h pending line (Some s) reply a = tells_within set h pending (request_within set.head.origin s) reply a
+
+export_by : (set : Setting) (h : List Entry) (edit : Option Edit) (reply : Reply) → TellsOf set h edit reply → IfSome (export_front reply) (λ f. f ≡ length h)
+unfolding Tells TellsOf
+export_by set h edit (Export f bytes) t = t
+export_by set h edit (Held f) t = tt
+export_by set h edit (Planned f size) t = tt
+export_by set h edit (Done f line) t = tt
+export_by set h edit (Conflict f mark) t = tt
+export_by set h edit (Refused f cause) t = tt
+export_by set h edit (Level f z) t = tt
+export_by set h edit (Contour f cuts) t = tt
+export_by set h edit (Volume f v) t = tt
+export_by set h edit (Stat f points lines) t = tt
+export_by set h edit Bye t = tt
+export_by set h edit (Syntax offset) t = tt
+export_by set h edit Range t = tt
+export_by set h edit NoPlan t = tt
+export_by set h edit Memory t = tt
+
+-- an export speaks of the history that it is made at
+pub export_here : (set : Setting) (h : List Entry) (pending : Option Pending) (line : List ℕ) (reply : Reply) → AnswersLine set h pending line reply → IfSome (export_front reply) (λ f. f ≡ length h)
+export_here set h pending line reply a = export_by set h (edit_made pending (request_of set.head.origin line)) reply (tells_line set h pending line (spoken line) reply a)
+
+-- the front of an export, where there is one, lies within the history
+abbrev pub IsThere : List Entry → Reply → Type 0
+IsThere h reply = IfSome (export_front reply) (λ f. f ≤ length h)
+
+abbrev pub AreThere : List Entry → List Reply → Type 0
+AreThere h [] = ⊤
+AreThere h (reply ∷ replies) = IsThere h reply × AreThere h replies
+
+here_there : (h : List Entry) (n : ℕ) (front : Option ℕ) → n ≤ length h → IfSome front (λ f. f ≡ length (take n h)) → IfSome front (λ f. f ≤ length h)
+here_there h n None within e = tt
+here_there h n (Some f) within e = omega (arith, e, within, length-take-le n h within)
+
+pub exchanges_there : (s : Sitting) (h : List Entry) (told : Told) (lines : List (List ℕ)) (replies : List Reply) → Exchanges s h told lines replies → AreThere h replies
+exchanges_there s h told [] [] t = tt
+exchanges_there s h told (line ∷ lines) (reply ∷ replies) t =
+    (here_there h t.0.front (export_front reply) t.0.there (export_here s.setting (take t.0.front h) told.pending line reply t.0.is), exchanges_there s h (told_after (request_of s.setting.head.origin line) reply told) lines replies t.1)
+exchanges_there s h told [] (reply ∷ replies) t = absurd t
+exchanges_there s h told (line ∷ lines) [] t = absurd t
 
 front_by : (r : Reading) (shown : Option ℕ) (n : ℕ) → IfSome shown (λ f. f ≡ n) → IsFrontBy r shown n
 front_by Shown None n h = tt

@@ -1,5 +1,5 @@
 -- How a session over a stream goes on by a byte, and how it stops.
-use Rattle.std.proofs.Common.{◌≡◌, ℕ, suc, ◌+◌, ◌<◌, ◌==◌, Bool, true, false, List, [], ◌∷◌, ◌++◌, length, take, drop, get_or, Option, None, Result, Ok, Err, refl, sym, ap, subst, ◌∙◌, append_assoc, arith, map, drop-cons, inl, inr}
+use Rattle.std.proofs.Common.{◌≡◌, ℕ, suc, ◌+◌, ◌<◌, ◌==◌, Bool, true, false, List, [], ◌∷◌, ◌++◌, length, take, drop, get_or, Option, None, Some, IfSome, ◌≤◌, Result, Ok, Err, refl, sym, ap, subst, ◌∙◌, append_assoc, arith, map, drop-cons, inl, inr}
 use Rattle.std.proofs.lemmas.List.{append-nil, map-append, take-append-drop, take_more}
 use Rattle.std.proofs.lemmas.Bool.Decides.{eqb_tells}
 use Rattle.std.proofs.Math.Seq.{drop-length}
@@ -8,19 +8,22 @@ use Rattle.ground_io.proofs.Ordering.{adds_none, goes_on, order_kept}
 use Rattle.ground_model.specs.declared.entry.Entry.{Entry}
 use Rattle.ground_model.specs.History.{IsLegal}
 use Rattle.line_protocol.specs.declared.reply.Reply.{Reply}
+use Rattle.line_protocol.specs.Within.{request_of}
 use Rattle.ground_io.proofs.Texts.{appends_none, appends_both}
 use Rattle.turn_lock.specs.Setting.{Setting, setting}
 use Rattle.ground_model.specs.Answer.{Pending}
 use Rattle.session.specs.Lines.{text_of, ended, unfinished, whole_lines}
+use Rattle.session.specs.Order.{AnswersInTime}
 use Rattle.session.specs.Texts.{text_at, texts}
+use Rattle.session.specs.Told.{told_nothing, edit_made, export_front}
 use Rattle.session.specs.Transcript.{Transcript, QuitIsLast, fronts_by}
 use Rattle.session.specs.Talk.{up_to_quit}
-use Rattle.session.specs.Talking.{Start, Output, Position, sitting, Going, Talking, Stops, Answered}
+use Rattle.session.specs.Talking.{Start, Output, Position, ServesLine, sitting, Going, Talking, Stops, Answered}
 use Rattle.session.specs.declared.conversation.Ended.{Ended}
 use Rattle.session.specs.declared.conversation.Ended.TheVariants.{Quit, WriteFault}
 use Rattle.session.proofs.Streams.{ended_from-append, ended_same}
-use Rattle.session.proofs.Exchanges.{answered, exchanges_each}
-use Rattle.session.proofs.Answering.{received-sends, sent-sends, received-read, sent-read, text_at-any, texts-any, texts_more, in_time_none, in_time_sent, in_time_read}
+use Rattle.session.proofs.Exchanges.{answered, exchanges_each, exchanges_there, export_here, AreThere, IsThere}
+use Rattle.session.proofs.Answering.{received-sends, sent-sends, received-read, sent-read, text_at-longer, texts-longer, entries-longer, texts_more, in_time_none, in_time_sent, in_time_read}
 use Rattle.session.proofs.Quits.{up_to_quit_at, up_to_quit_front, has_quit_at, no_quit_more, quit_is_last}
 
 pub no_line_end : (b : ℕ) → (b ≡ 10 → ⊥) → (b == 10) ≡ false
@@ -72,15 +75,39 @@ module _ (b : Start) (change : Position × Position) (same : setting change.0.jo
   line : List ℕ
   line = text_of (unfinished seen)
 
-  -- the text of the line's reply, and of all replies with it
-  text_now : (reply : Reply) → text_at (setting change.0.journal) change.0.journal.entries reply ≡ text_at b.setting change.1.journal.entries reply
-  text_now reply = ap (λ set. text_at set change.0.journal.entries reply) same ∙ text_at-any b.setting change.0.journal.entries change.1.journal.entries reply
+  -- what came to the history with the line, after which all texts so far are the same
+  module _ (reply : Reply) (serves : ServesLine b.author change line reply) where
+    more : List Entry
+    more = (entries-longer b.author change.0.journal.entries (edit_made change.0.pending (request_of change.0.journal.head.origin line)) reply).0
 
-  texts_now : texts b.setting change.0.journal.entries t.replies ≡ texts b.setting change.1.journal.entries t.replies
-  texts_now = texts-any b.setting change.0.journal.entries change.1.journal.entries t.replies
+    went_on : change.1.journal.entries ≡ change.0.journal.entries ++ more
+    unfolding more
+    went_on = serves.entries ∙ (entries-longer b.author change.0.journal.entries (edit_made change.0.pending (request_of change.0.journal.head.origin line)) reply).1
 
-  all_now : (reply : Reply) → texts b.setting change.1.journal.entries (t.replies ++ reply ∷ []) ≡ texts b.setting change.0.journal.entries t.replies ++ text_at (setting change.0.journal) change.0.journal.entries reply
-  all_now reply = texts_more b.setting change.1.journal.entries t.replies reply ∙ (λ i. sym texts_now i ++ sym (text_now reply) i)
+    there_now : AreThere change.0.journal.entries t.replies
+    there_now = exchanges_there (sitting b) change.0.journal.entries told_nothing (whole_lines seen) t.replies t.going.exchanges
+
+    is_there : (front : Option ℕ) → IfSome front (λ f. f ≡ length change.0.journal.entries) → IfSome front (λ f. f ≤ length change.0.journal.entries)
+    is_there None here = tt
+    is_there (Some f) here = omega (arith, here)
+
+    -- the text of the line's reply, and of all replies with it
+    text_now : text_at (setting change.0.journal) change.0.journal.entries reply ≡ text_at b.setting change.1.journal.entries reply
+    text_now =
+        ap (λ set. text_at set change.0.journal.entries reply) same
+        ∙ sym (text_at-longer b.setting change.0.journal.entries more reply (is_there (export_front reply) (export_here (setting change.0.journal) change.0.journal.entries change.0.pending line reply serves.is)))
+        ∙ ap (λ h. text_at b.setting h reply) (sym went_on)
+
+    texts_now : texts b.setting change.0.journal.entries t.replies ≡ texts b.setting change.1.journal.entries t.replies
+    texts_now = sym (texts-longer b.setting change.0.journal.entries more t.replies there_now) ∙ ap (λ h. texts b.setting h t.replies) (sym went_on)
+
+    all_now : texts b.setting change.1.journal.entries (t.replies ++ reply ∷ []) ≡ texts b.setting change.0.journal.entries t.replies ++ text_at (setting change.0.journal) change.0.journal.entries reply
+    all_now = texts_more b.setting change.1.journal.entries t.replies reply ∙ (λ i. sym texts_now i ++ sym text_now i)
+
+    in_time_now : (pieces : List (List ℕ)) → AnswersInTime b.setting change.1.journal.entries (t.events ++ map Sent pieces) (t.replies ++ reply ∷ [])
+    in_time_now pieces =
+        subst (λ h. AnswersInTime b.setting h (t.events ++ map Sent pieces) (t.replies ++ reply ∷ [])) (sym went_on)
+        (in_time_sent b.setting change.0.journal.entries more t.events t.replies pieces reply there_now t.in_time)
 
   -- a line end, and the line's reply
   pub line_goes : {E : Type 0} → Answered {E = E} b.author change (text_of (unfinished seen)) outputs (Ok false) → Talking b change.1.journal.entries change.1.pending outputs.1 got (seen ++ 10 ∷ [])
@@ -92,12 +119,12 @@ module _ (b : Start) (change : Position × Position) (same : setting change.0.jo
         replies = t.replies ++ a.reply ∷ [];
         events = t.events ++ map Sent put.sent.0;
         going = rw lines (answered b change (whole_lines seen) t.replies line a.reply t.going same a.serves);
-        written = rw (all_now a.reply) (appends_both b.output.written outputs.0.written outputs.1.written (texts b.setting change.0.journal.entries t.replies) (text_at (setting change.0.journal) change.0.journal.entries a.reply) t.written put.appended);
+        written = rw (all_now a.reply a.serves) (appends_both b.output.written outputs.0.written outputs.1.written (texts b.setting change.0.journal.entries t.replies) (text_at (setting change.0.journal) change.0.journal.entries a.reply) t.written put.appended);
         no_quit = rw lines (no_quit_more (whole_lines seen) line t.no_quit (sym a.told.0));
         ordered = goes_on b.output.order outputs.0.order outputs.1.order t.events (map Sent put.sent.0) t.ordered put.sent.1;
         received = received-sends t.events put.sent.0 ∙ t.received;
-        sent = sent-sends t.events put.sent.0 (text_at (setting change.0.journal) change.0.journal.entries a.reply) put.sent.2 ∙ ap (λ bytes. bytes ++ text_at (setting change.0.journal) change.0.journal.entries a.reply) t.sent ∙ sym (all_now a.reply);
-        in_time = in_time_sent b.setting change.0.journal.entries change.1.journal.entries t.events t.replies put.sent.0 a.reply t.in_time;
+        sent = sent-sends t.events put.sent.0 (text_at (setting change.0.journal) change.0.journal.entries a.reply) put.sent.2 ∙ ap (λ bytes. bytes ++ text_at (setting change.0.journal) change.0.journal.entries a.reply) t.sent ∙ sym (all_now a.reply a.serves);
+        in_time = in_time_now a.reply a.serves put.sent.0;
       }
 
   -- a line that asks to quit
@@ -114,10 +141,10 @@ module _ (b : Start) (change : Position × Position) (same : setting change.0.jo
         transcript = transcript_of b change.1.journal.entries change.1.pending _ _ going (quit_is_last (whole_lines seen) line t.no_quit);
         begins = going.begins;
         alone = going.alone;
-        written = rw (all_now a.reply) (appends_both b.output.written outputs.0.written outputs.1.written (texts b.setting change.0.journal.entries t.replies) (text_at (setting change.0.journal) change.0.journal.entries a.reply) t.written put.appended);
+        written = rw (all_now a.reply a.serves) (appends_both b.output.written outputs.0.written outputs.1.written (texts b.setting change.0.journal.entries t.replies) (text_at (setting change.0.journal) change.0.journal.entries a.reply) t.written put.appended);
         ordered = goes_on b.output.order outputs.0.order outputs.1.order t.events (map Sent put.sent.0) t.ordered put.sent.1;
         received = received-sends t.events put.sent.0 ∙ t.received ∙ all;
-        in_time = in_time_sent b.setting change.0.journal.entries change.1.journal.entries t.events t.replies put.sent.0 a.reply t.in_time;
+        in_time = in_time_now a.reply a.serves put.sent.0;
         ending = rw (lines_at seen rest) (has_quit_at (whole_lines seen) line (whole_lines rest) (sym a.told.0));
       }
 
@@ -141,12 +168,12 @@ module _ (b : Start) (change : Position × Position) (same : setting change.0.jo
           last = a.reply;
           are = refl;
           count = some.0;
-          within = rw (← text_now a.reply) some.1;
-          appended = rw (← texts_now, ← text_now a.reply) (appends_both b.output.written outputs.0.written outputs.1.written (texts b.setting change.0.journal.entries t.replies) (take some.0 (text_at (setting change.0.journal) change.0.journal.entries a.reply)) t.written some.2);
+          within = rw (← text_now a.reply a.serves) some.1;
+          appended = rw (← texts_now a.reply a.serves, ← text_now a.reply a.serves) (appends_both b.output.written outputs.0.written outputs.1.written (texts b.setting change.0.journal.entries t.replies) (take some.0 (text_at (setting change.0.journal) change.0.journal.entries a.reply)) t.written some.2);
         };
         ordered = goes_on b.output.order outputs.0.order outputs.1.order t.events (map Sent put.0) t.ordered put.1;
         received = received-sends t.events put.0 ∙ t.received ∙ all;
-        in_time = in_time_sent b.setting change.0.journal.entries change.1.journal.entries t.events t.replies put.0 a.reply t.in_time;
+        in_time = in_time_now a.reply a.serves put.0;
         ending = tt;
       }
 

@@ -10,7 +10,7 @@ use Rattle.ground_model.specs.declared.refusal.Refusal.{Refusal}
 use Rattle.ground_model.specs.Answer as answers
 use Rattle.ground_model.specs.Answer.{Pending, next_entry}
 use Rattle.line_protocol.specs.declared.reply.Reply.{Reply}
-use Rattle.line_protocol.specs.declared.reply.Reply.TheVariants.{Held, Planned, Done, Conflict, Refused, Level, Contour, Volume, Stat, Export, Bye, Syntax, Range, NoPlan, Memory, Unbuilt}
+use Rattle.line_protocol.specs.declared.reply.Reply.TheVariants.{Held, Planned, Done, Conflict, Refused, Level, Contour, Volume, Stat, Export, Bye, Syntax, Range, NoPlan, Memory}
 use Rattle.line_protocol.specs.declared.request.Request.{Request}
 use Rattle.line_protocol.specs.declared.request.Request.TheVariants as asks
 use Rattle.turn_lock.specs.Setting.{setting}
@@ -217,4 +217,3 @@ holds-newest old new before after request reply held step = step.holds ∙ newes
     newest (Syntax offset) is = refl
     newest Range is = refl
     newest NoPlan is = refl
-    newest Unbuilt is = refl

@@ -2,7 +2,7 @@
 use Rattle.std.specs.Prelude.{◌≡◌, ℕ, length, Bool, true, false, Option, None, Some, Ok, Err, is_some, ⊤}
 use Rattle.ground_model.specs.Answer.{Pending}
 use Rattle.line_protocol.specs.declared.reply.Reply.{Reply}
-use Rattle.line_protocol.specs.declared.reply.Reply.TheVariants.{Held, Planned, Done, Conflict, Refused, Level, Contour, Volume, Stat, Export, Bye, Syntax, Range, NoPlan, Memory, Unbuilt}
+use Rattle.line_protocol.specs.declared.reply.Reply.TheVariants.{Held, Planned, Done, Conflict, Refused, Level, Contour, Volume, Stat, Export, Bye, Syntax, Range, NoPlan, Memory}
 use Rattle.line_protocol.specs.declared.request.Request.{Request}
 use Rattle.line_protocol.specs.declared.request.Request.TheVariants as asks
 use Rattle.turn_lock.specs.Journal.{IsPrefix}
@@ -73,7 +73,6 @@ held_after Bye held newest = newest
 held_after (Syntax offset) held newest = newest
 held_after Range held newest = newest
 held_after NoPlan held newest = newest
-held_after Unbuilt held newest = newest
 
 -- a request that was answered at the newest version, in a turn on the store
 pub record TurnStep (change : Journal × Journal) (old new : SessionView) (request : Request) (reply : Reply) : Type 0 where

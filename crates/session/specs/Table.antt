@@ -14,9 +14,11 @@ use Rattle.ground_model.specs.Slope.{relief}
 use Rattle.ground_model.specs.Answer as answers
 use Rattle.ground_model.specs.Answer.{Answer, Pending, answer}
 use Rattle.line_protocol.specs.declared.reply.Reply.{Reply}
-use Rattle.line_protocol.specs.declared.reply.Reply.TheVariants.{Held, Planned, Done, Conflict, Refused, Level, Contour, Volume, Stat, Bye, NoPlan, Unbuilt}
+use Rattle.line_protocol.specs.declared.reply.Reply.TheVariants.{Held, Planned, Done, Conflict, Refused, Level, Contour, Volume, Stat, Bye, NoPlan, Export}
 use Rattle.line_protocol.specs.declared.request.Request.{Request}
 use Rattle.line_protocol.specs.declared.request.Request.TheVariants as asks
+use Rattle.landxml_write.specs.Text.{document}
+use Rattle.store.specs.Shown.{shown_of}
 use Rattle.turn_lock.specs.Setting.{Setting}
 
 -- the answer to an edit, as a reply
@@ -46,4 +48,4 @@ IsReply set h pending (asks.Plan edit) reply = reply ≡ to_plan h edit (refusal
 IsReply set h pending asks.Commit reply = reply ≡ to_commit set h pending
 IsReply set h pending (asks.Contour z) reply = reply ≡ Contour (length h) (contour_at (relief (content_of h)) z)
 IsReply set h pending (asks.Volume z) reply = reply ≡ Volume (length h) (volume_over (relief (content_of h)) z)
-IsReply set h pending asks.Export reply = reply ≡ Unbuilt
+IsReply set h pending asks.Export reply = reply ≡ Export (length h) (length (document (shown_of set.head (content_of h))))

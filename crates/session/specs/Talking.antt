@@ -8,7 +8,7 @@ use Rattle.ground_model.specs.declared.entry.Entry.{Entry}
 use Rattle.ground_model.specs.Answer.{Pending, next_entry}
 use Rattle.ground_model.specs.History.{IsLegal}
 use Rattle.line_protocol.specs.declared.reply.Reply.{Reply}
-use Rattle.line_protocol.specs.declared.reply.Reply.TheVariants.{Held, Planned, Done, Conflict, Refused, Level, Contour, Volume, Stat, Export, Bye, Syntax, Range, NoPlan, Memory, Unbuilt}
+use Rattle.line_protocol.specs.declared.reply.Reply.TheVariants.{Held, Planned, Done, Conflict, Refused, Level, Contour, Volume, Stat, Export, Bye, Syntax, Range, NoPlan, Memory}
 use Rattle.line_protocol.specs.declared.request.Request.{Request}
 use Rattle.line_protocol.specs.Within.{request_of}
 use Rattle.turn_lock.specs.Setting.{Setting, setting}
@@ -68,7 +68,6 @@ is_bye (Syntax offset) = false
 is_bye Range = false
 is_bye NoPlan = false
 is_bye Memory = false
-is_bye Unbuilt = false
 
 -- what is known after these replies to these lines
 abbrev pub told_by : Setting → List (List ℕ) → List Reply → Told → Told

@@ -4,7 +4,7 @@ use Rattle.std.specs.List.{flat_map}
 use Rattle.ground_model.specs.declared.edit.Edit.{Edit}
 use Rattle.ground_model.specs.Answer.{Pending}
 use Rattle.line_protocol.specs.declared.reply.Reply.{Reply}
-use Rattle.line_protocol.specs.declared.reply.Reply.TheVariants.{Held, Planned, Done, Conflict, Refused, Level, Contour, Volume, Stat, Export, Bye, Syntax, Range, NoPlan, Memory, Unbuilt}
+use Rattle.line_protocol.specs.declared.reply.Reply.TheVariants.{Held, Planned, Done, Conflict, Refused, Level, Contour, Volume, Stat, Export, Bye, Syntax, Range, NoPlan, Memory}
 use Rattle.line_protocol.specs.declared.request.Request.{Request}
 use Rattle.line_protocol.specs.declared.request.Request.TheVariants as asks
 
@@ -34,7 +34,6 @@ front_of (Syntax offset) = None
 front_of Range = None
 front_of NoPlan = None
 front_of Memory = None
-front_of Unbuilt = None
 
 -- the front of a reply that an edit was made
 abbrev pub done_front : Reply → Option ℕ
@@ -53,7 +52,24 @@ done_front (Syntax offset) = None
 done_front Range = None
 done_front NoPlan = None
 done_front Memory = None
-done_front Unbuilt = None
+
+-- the front whose document follows a reply: that of an export
+abbrev pub export_front : Reply → Option ℕ
+export_front (Export f bytes) = Some f
+export_front (Held f) = None
+export_front (Planned f size) = None
+export_front (Done f line) = None
+export_front (Conflict f mark) = None
+export_front (Refused f cause) = None
+export_front (Level f z) = None
+export_front (Contour f cuts) = None
+export_front (Volume f v) = None
+export_front (Stat f points lines) = None
+export_front Bye = None
+export_front (Syntax offset) = None
+export_front Range = None
+export_front NoPlan = None
+export_front Memory = None
 
 -- the front that is shown after a reply, which is as before where the reply prints none
 abbrev pub shown_after : Option ℕ → Option ℕ → Option ℕ
@@ -77,7 +93,6 @@ planned_front (Syntax offset) = None
 planned_front Range = None
 planned_front NoPlan = None
 planned_front Memory = None
-planned_front Unbuilt = None
 
 -- the plan that is pending after a reply to `plan`, which is this edit's at the front of the reply where there is one
 abbrev pub planned_at : Edit → Option ℕ → Option Pending → Option Pending
@@ -101,7 +116,6 @@ committed_after Bye pending = None
 committed_after (Syntax offset) pending = None
 committed_after Range pending = None
 committed_after NoPlan pending = None
-committed_after Unbuilt pending = None
 
 -- the plan that is pending after the reply to a request
 abbrev pub pending_after : Option Request → Reply → Option Pending → Option Pending

@@ -4,7 +4,6 @@ ghost use Rattle.std.specs.Prelude.{◌≡◌, ◌≢◌, ◌+◌, ◌≤◌, �
 ghost use Rattle.ground_io.specs.Causes.{HasCause, Rose};
 ghost use Rattle.ground_io.specs.Order.{AddsRead};
 ghost use Rattle.ground_io.specs.Wires.{wire_view};
-ghost use Rattle.ground_num.specs.Head.{IsOrigin};
 ghost use Rattle.ground_model.specs.History.{IsLegal};
 ghost use Rattle.line_protocol.specs.Replies.{HasVolumeWithin};
 ghost use Rattle.turn_lock.specs.Journal.{IsPrefix};
@@ -14,11 +13,11 @@ ghost use Rattle.session.specs.Talk.{Talk};
 ghost use Rattle.session.specs.Talking.{Serves, ServesLine, is_bye, Answered, GoesOn, ReadsFront};
 ghost use Rattle.session.specs.declared.conversation.Ended.TheVariants.{Quit, ReadFault, WriteFault};
 
+use crate::answer::{origin, put_answer};
 use crate::line::{LINE_LIMIT, LineBuffer};
 use crate::session::{Session, needs_turn, own_step, turn_step};
 use ground_io::{Failed, Link, Sink};
-use ground_num::Origin;
-use line_protocol::{LineFault, Reply, Request, put_reply, read_request};
+use line_protocol::{LineFault, Reply, Request, read_request};
 use page_vec::Steps;
 use std::alloc::Global;
 use std::marker::Brand;
@@ -108,14 +107,6 @@ fn reply_to_line(alloc: Global, store: &mut Store, session: &mut Session, line: 
     }
 }
 
-// The origin of the coordinates.
-fn origin(session: &Session) -> &Origin
-    ensures value { result.now ≡ session.now.journal.head.origin }
-    ensures small { IsOrigin result.now }
-{
-    &session.version().head().origin
-}
-
 // Whether the reply ends the session.
 fn is_farewell(reply: &Reply) -> bool
     ensures { result ≡ is_bye reply.now }
@@ -140,7 +131,7 @@ fn answer_line<S: Sink>(
     ensures author { session.new.author ≡ session.old.author }
 {
     let reply = reply_to_line(alloc, store, session, line);
-    put_reply(&reply, origin(session), sink)?;
+    put_answer(session, &reply, sink)?;
     Ok(is_farewell(&reply))
 }
 
@@ -253,7 +244,7 @@ fn converse<L: Link>(
 }
 
 /// Answers the lines of a link, in order, as the one author of the store, before the next read. It
-/// hands each reply to the link in one write, and in more only where the link takes less. It never
+/// hands each reply to the link as `put_answer` does. It never
 /// reads more than `budget` bytes. Its line buffer, of 131,072 bytes, and its first version are taken
 /// before the first read. An edit whose reply could not be written stays made. Where a link's bytes and the order of
 /// its calls aren't known, as with standard input, no clause says anything of them.

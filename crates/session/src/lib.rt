@@ -2,12 +2,14 @@
 //! the bytes come from, nor in which pieces.
 #![tactic(auto)]
 
+mod answer;
 mod conversation;
 mod law;
 mod line;
 mod queries;
 mod session;
 
+pub use answer::put_answer;
 pub use conversation::{Ended, talk};
 pub use law::transcript_law;
 pub use session::{Session, Work, WorkDone, begin_turn, end_turn, needs_turn, own_step, turn_step};

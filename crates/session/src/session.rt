@@ -154,7 +154,7 @@ pub fn own_step(alloc: Global, session: &mut Session, request: Request) -> Reply
         Request::Quit => Reply::Bye,
         Request::Contour(level) => contour_reply(alloc, &session.version, level),
         Request::Volume(datum) => volume_reply(&session.version, datum),
-        Request::Export => Reply::Unbuilt,
+        Request::Export => Reply::Export(session.front(), session.version.document_len()),
         Request::Sync | Request::Apply(_) => unreachable!(),
     }
 }

@@ -1,6 +1,6 @@
 //! What a version shows to be written.
 
-ghost use Rattle.std.specs.Prelude.{◌≡◌, not, slice_get, option_map, find};
+ghost use Rattle.std.specs.Prelude.{◌≡◌, not, length, slice_get, option_map, find};
 ghost use Rattle.std.specs.FinMap as finmap;
 ghost use Rattle.std.specs.List.{position_or_len};
 ghost use Rattle.std.specs.List.Sorted.{IsStrictlySortedBy};
@@ -8,11 +8,13 @@ ghost use Rattle.std.specs.Ordering.{is_lt};
 ghost use Rattle.ground_model.specs.Table.{live};
 ghost use Rattle.ground_model.specs.Kept.{is_kept};
 ghost use Rattle.landxml_write.specs.Exports.{corners_cmp, comes_after};
+ghost use Rattle.landxml_write.specs.Text.{document};
+ghost use Rattle.store.specs.Shown.{shown_by};
 
 use crate::version::Version;
 use ground_model::{Facet, Level, LineId, LineKind, Place, Places};
 use ground_num::Head;
-use landxml_write::Export;
+use landxml_write::{Export, surface_len};
 use line_table::{Line, Lines};
 use rings::kept;
 use std::collections::BTreeMap;
@@ -129,5 +131,17 @@ impl Export for Version {
     fn face_after(&self, after: Option<Facet>) -> Option<(Facet, bool)> {
         let surface = self.state.get().surface();
         with_kept(surface.lines(), facet_after(surface.facets(), after))
+    }
+}
+
+impl Version {
+    /// How many bytes the version has as a LandXML document. It is counted over the whole surface, and
+    /// takes no memory.
+    pub fn document_len(&self) -> u64
+        ensures { result ≡ length (document (shown_by self.now.journal)) }
+    {
+        // Only the proof reads it: the lines have so few places that the count is one of 64 bits.
+        let _places = self.state.get().surface().lines().places();
+        surface_len(self)
     }
 }

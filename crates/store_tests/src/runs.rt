@@ -29,7 +29,7 @@ fn event_of(crew: Crew, request: Request) -> Option<Event> {
     }
 }
 
-// The reply as one of the protocol. No event of a script gives the last two.
+// The reply as one of the protocol. No event of a script gives the last two, nor has one their text.
 fn reply_of(reply: &CoreReply) -> Reply
     ensures { HasVolumeWithin result }
 {
@@ -42,7 +42,7 @@ fn reply_of(reply: &CoreReply) -> Reply
         CoreReply::Level(front, level) => Reply::Level(*front, *level),
         CoreReply::Stat(front, points, lines) => Reply::Stat(*front, *points, *lines),
         CoreReply::NoPlan => Reply::NoPlan,
-        CoreReply::Contour(_, _) | CoreReply::Volume(_, _) => Reply::Unbuilt,
+        CoreReply::Contour(_, _) | CoreReply::Volume(_, _) => Reply::Bye,
     }
 }
 

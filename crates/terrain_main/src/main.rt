@@ -6,6 +6,8 @@ mod command;
 #[cfg(test)]
 mod end_tests;
 #[cfg(test)]
+mod export_texts;
+#[cfg(test)]
 mod line_session_texts;
 #[cfg(test)]
 mod refusal_texts;

@@ -54,9 +54,6 @@ do set 0 0 7|done 5
 commit|conflict 5 at 0.000 0.000
 stat|stat 5 points 1 lines 0
 
-what isn't built
-export|error unbuilt
-
 the range of numbers
 do unline 7|refused 0 no-line 7
 contour 67108.865|error range

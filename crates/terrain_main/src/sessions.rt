@@ -2,6 +2,7 @@
 
 ghost use Rattle.std.specs.Prelude.{◌≤◌, IfOk};
 
+use crate::export_texts::EXPORTS;
 use crate::line_session_texts::{CROSSINGS, LINES, RINGS};
 use crate::refusal_texts::{AFTER_DIAGONAL, AFTER_END, AFTER_JOINT, AFTER_POINT, AFTER_SQUARE};
 use crate::session_texts::{MEASURES, POINTS};
@@ -93,7 +94,7 @@ impl Script {
 
 /// What a session on this store writes where it reads this.
 pub(crate) fn replies_to(alloc: Global, store: &mut Store, input: &str) -> Result<String, Fail> {
-    let mut link = MemLink::new(alloc, input.as_bytes(), 1024, &[], &[])?;
+    let mut link = MemLink::new(alloc, input.as_bytes(), 2048, &[], &[])?;
     converse(alloc, store, &mut link, 10_000);
     let written = str::from_utf8(link.written())?;
     Ok(String::from_str(alloc, written)?)
@@ -137,7 +138,7 @@ fn run_sessions(rt: &impl Abort, alloc: Global, texts: &str) -> Result<(), Fail>
 
 #[test]
 fn sessions_give_the_worked_replies(rt: HostRuntime) -> Result<(), Fail> {
-    for texts in [POINTS, MEASURES, LINES, RINGS, CROSSINGS] {
+    for texts in [POINTS, MEASURES, EXPORTS, LINES, RINGS, CROSSINGS] {
         run_sessions(&rt, rt.alloc(), texts)?;
     }
     Ok(())
