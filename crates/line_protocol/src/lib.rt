@@ -19,7 +19,10 @@ mod volume_text;
 mod words;
 
 pub use law::grammar_law;
+pub use number::read_number;
 pub use put::put_reply;
 pub use read::{LineFault, read_request};
+pub use reason_text::add_reason;
 pub use reply::Reply;
 pub use request::Request;
+pub use text::Text;

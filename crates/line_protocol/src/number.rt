@@ -78,7 +78,7 @@ fn read_unsigned(text: &[u8]) -> Option<u64>
 /// A coordinate or a level: a minus or none, one to nine digits, and a point with one to three
 /// digits or none.
 #[tactic(auto, unfolding(crate::specs::Grammar::number_of))]
-pub(crate) fn read_number(word: &[u8]) -> Option<Thousandths>
+pub fn read_number(word: &[u8]) -> Option<Thousandths>
     ensures value { option_map (λ n. n.0) result ≡ number_of word.now }
     ensures small { IfSome result (λ n. IsWithin (10 ^ 12) n.0) }
 {

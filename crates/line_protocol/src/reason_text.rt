@@ -30,8 +30,8 @@ pub(crate) fn add_pair(text: &mut Text, word: &[u8], first: u32, second: u32)
     text.add_number(u64::from(second));
 }
 
-/// The cause of a refusal.
-pub(crate) fn add_reason(text: &mut Text, origin: &Origin, reason: &Refusal)
+/// Adds the cause of a refusal, as replies and fault lines write it: places with the origin added.
+pub fn add_reason(text: &mut Text, origin: &Origin, reason: &Refusal)
     requires origin { IsOrigin origin.now }
     requires room { length text.old + 60 ≤ 512 }
     ensures text { text.new ≡ text.old ++ reason_text origin.now reason.now }

@@ -11,9 +11,9 @@ use std::marker::Model;
 /// The most bytes that a text has: more than the longest reply of one line.
 const ROOM: usize = 512;
 
-/// A text of at most `ROOM` bytes, seen as its bytes.
+/// A text of at most 512 bytes, seen as its bytes.
 #[derive(Drop)]
-pub(crate) struct Text {
+pub struct Text {
     bytes: [u8; ROOM],
     used: usize,
 }
@@ -30,7 +30,7 @@ impl Model for Text {
 
 impl Text {
     /// The text of no byte.
-    pub(crate) fn new() -> Self
+    pub fn new() -> Text
         ensures { result ≡ [] }
     {
         Text {
@@ -55,7 +55,7 @@ impl Text {
     }
 
     /// Adds the piece at the end.
-    pub(crate) fn add(&mut self, piece: &[u8])
+    pub fn add(&mut self, piece: &[u8])
         requires { length self.old + length piece.now ≤ 512 }
         ensures { self.new ≡ self.old ++ piece.now }
     {
@@ -65,7 +65,7 @@ impl Text {
     }
 
     /// Adds a space and the number.
-    pub(crate) fn add_number(&mut self, number: u64)
+    pub fn add_number(&mut self, number: u64)
         requires { length self.old + 21 ≤ 512 }
         ensures text { self.new ≡ self.old ++ 32 ∷ decimal number }
         ensures fits { length self.new ≤ length self.old + 21 }
@@ -87,7 +87,7 @@ impl Text {
     }
 
     /// Adds the number of thousandths.
-    pub(crate) fn add_thousandths(&mut self, value: i64)
+    pub fn add_thousandths(&mut self, value: i64)
         requires { length self.old + 24 ≤ 512 }
         ensures text { self.new ≡ self.old ++ thousandths_text value }
         ensures fits { length self.new ≤ length self.old + 24 }
@@ -111,7 +111,7 @@ impl Text {
     }
 
     /// Its bytes.
-    pub(crate) fn as_bytes(&self) -> &[u8]
+    pub fn as_bytes(&self) -> &[u8]
         ensures { result.now ≡ self.now }
     {
         &self.bytes[..self.used]
