@@ -32,8 +32,8 @@ pub(crate) fn split_at(mesh: &mut Mesh, place: Place, script: &mut Script) -> Re
     Ok(())
 }
 
-// Inserts a place into a locally Delaunay mesh.
-fn insert(mesh: &mut Mesh, place: Place, alloc: Global) -> Result<(), AllocError>
+/// Inserts a place into a locally Delaunay mesh.
+pub(crate) fn insert(mesh: &mut Mesh, place: Place, alloc: Global) -> Result<(), AllocError>
     requires sheet { IsSheetMesh mesh.old.slots }
     requires local { IsLocallyDelaunay (net_in mesh.old.slots) }
     ensures sheet { OnOk result (IsSheetMesh mesh.new.slots) }
@@ -103,8 +103,8 @@ fn facet_in(mesh: &Mesh, slot: u32) -> Option<Facet> {
     }
 }
 
-// Whether the facets of the mesh are these, however they are ordered.
-fn has_facets(mesh: &Mesh, expected: &FacetList) -> bool {
+/// Whether the facets of the mesh are these, however they are ordered.
+pub(crate) fn has_facets(mesh: &Mesh, expected: &FacetList) -> bool {
     let mut count: usize = 0;
     for slot in 0..mesh.pages().len() {
         if let Some(f) = facet_in(mesh, slot) {
@@ -117,16 +117,16 @@ fn has_facets(mesh: &Mesh, expected: &FacetList) -> bool {
     count == expected.len()
 }
 
-// The points, with one more.
-fn with_point(points: &mut Vec<Place>, p: Place) -> Result<(), AllocError> {
+/// The points, with one more.
+pub(crate) fn with_point(points: &mut Vec<Place>, p: Place) -> Result<(), AllocError> {
     if !points.contains(&p) {
         points.push(p)?;
     }
     Ok(())
 }
 
-// Whether the mesh has the facets that the points have by the definition.
-fn is_right(mesh: &Mesh, points: &[Place], alloc: Global) -> Result<bool, AllocError> {
+/// Whether the mesh has the facets that the points have by the definition.
+pub(crate) fn is_right(mesh: &Mesh, points: &[Place], alloc: Global) -> Result<bool, AllocError> {
     let none: Vec<Piece> = Vec::new(alloc);
     let expected = facets(alloc, points, &none)?;
     Ok(has_facets(mesh, &expected))

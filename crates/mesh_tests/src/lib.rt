@@ -11,6 +11,8 @@ mod nets;
 #[cfg(test)]
 mod random_steps;
 #[cfg(test)]
+mod removed;
+#[cfg(test)]
 mod spots;
 #[cfg(test)]
 mod undone;
