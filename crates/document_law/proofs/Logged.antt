@@ -13,6 +13,7 @@ use Rattle.ground_model.specs.declared.edit.Edit.TheVariants.{AddPoint, AddLine}
 use Rattle.ground_model.specs.declared.entry.Entry.{Entry}
 use Rattle.ground_model.specs.declared.limits.Limits.{Limits}
 use Rattle.ground_model.specs.declared.refusal.Refusal.TheVariants.{Occupied, PointsFull, TooShort, Repeated, NotPoint, VerticesFull, LinesFull, SelfCross, Crosses, LogFull}
+use Rattle.ground_model.specs.Answer.{next_entry}
 use Rattle.ground_model.specs.Content.{Content, empty, after, points_of, lines_of}
 use Rattle.ground_model.specs.Crossings.{any_cross, lines_cross, self_cross, links_cross, link_crosses, cross_between, pieces_on_link, is_on_points}
 use Rattle.ground_model.specs.History.{content_of, IsLegal, IsNext}
@@ -28,7 +29,7 @@ use Rattle.ground_model.proofs.LinePieces.{ends_on, is_point_in}
 use Rattle.ground_model.proofs.Planar.{is_point-keys, planar-legal}
 use Rattle.landxml_write.specs.Exports.{Vertex}
 use Rattle.document_law.specs.Drafts.{AreOnce}
-use Rattle.document_law.specs.Reloaded.{next_entry, logged}
+use Rattle.document_law.specs.Reloaded.{logged}
 use Rattle.document_law.specs.Surveyed.{IsWholeLine}
 use Rattle.document_law.proofs.Insertions.{Points, inserted, AreNew, first_new, rest_new}
 use Rattle.document_law.proofs.Tables.{live_more}
@@ -59,7 +60,7 @@ legal_more limits h x legal next k y e =
 
 pub logged_more : (past : List Entry) (xs ys : List Edit) → logged past (xs ++ ys) ≡ logged (logged past xs) ys
 logged_more past [] ys = refl
-logged_more past (x ∷ xs) ys = logged_more (past ++ next_entry past x ∷ []) xs ys
+logged_more past (x ∷ xs) ys = logged_more (past ++ next_entry 0 past x ∷ []) xs ys
 
 -- points
 
@@ -83,7 +84,7 @@ unfolding after
 add_points limits [] past legal new once room log = record { legal = legal; content = refl; size = omega arith }
 add_points limits (v ∷ vs) past legal new once room log =
     let c = content_of past in
-    let x = next_entry past (AddPoint v.0 v.1) in
+    let x = next_entry 0 past (AddPoint v.0 v.1) in
     let there = content_more past x in
     let lawful = point_lawful limits c (length past) v (first_new c.points v vs new) (omega (arith, room)) (omega (arith, log)) in
     let P : Content → Type 0 = λ d. AreNew d.points vs in
@@ -216,7 +217,7 @@ unfolding after
 add_lines limits points all before [] past legal can split same lines log = record { legal = legal; points_are = same; lines = lines ∙ sym (append-nil before) }
 add_lines limits points all before (l ∷ ls) past legal can split same lines log =
     let c = content_of past in
-    let x = next_entry past (AddLine l.kind l.places) in
+    let x = next_entry 0 past (AddLine l.kind l.places) in
     let there = content_more past x in
     let P : Points → Type 0 = λ p. AreAddable limits p all in
     let lawful = line_lawful limits c (length past) before ls all l (subst P (sym same) can) split lines (omega (arith, log)) in

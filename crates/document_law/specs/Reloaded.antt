@@ -1,34 +1,41 @@
 -- What is loaded from a draft, edit by edit, and when that is the surface that was written.
-use Rattle.std.specs.Prelude.{◌≡◌, ◌+◌, ◌≤◌, List, [], ◌∷◌, ◌++◌, map, All}
+use Rattle.std.specs.Prelude.{◌≡◌, ◌≤◌, List, [], ◌∷◌, ◌++◌, map, All}
 use Rattle.std.specs.FinMap as finmap
 use Rattle.ground_num.specs.declared.head.Head.{Head}
 use Rattle.ground_model.specs.declared.edit.Edit.{Edit}
 use Rattle.ground_model.specs.declared.edit.Edit.TheVariants.{AddPoint, AddLine}
 use Rattle.ground_model.specs.declared.entry.Entry.{Entry}
 use Rattle.ground_model.specs.declared.limits.Limits.{Limits}
+use Rattle.ground_model.specs.declared.line.LineKind.{LineKind}
 use Rattle.ground_model.specs.Content.{Content, lines_of}
-use Rattle.ground_model.specs.History.{content_of, entries_of, IsLegal}
+use Rattle.ground_model.specs.Answer.{next_entry}
+use Rattle.ground_model.specs.History.{content_of, IsLegal}
 use Rattle.ground_model.specs.Kept.{is_kept}
+use Rattle.ground_model.specs.Place.{Coords}
 use Rattle.ground_model.specs.Tri.{tri}
 use Rattle.landxml_surface.specs.declared.draft.Draft.{Draft}
 use Rattle.landxml_surface.specs.declared.origin.OriginRule.TheVariants.{Given}
-use Rattle.landxml_write.specs.Exports.{Face, Exported}
+use Rattle.landxml_write.specs.Exports.{Face, Exported, Vertex}
 use Rattle.landxml_write.specs.Text.{document}
 use Rattle.document_law.specs.Drafts.{AreDrafts}
 use Rattle.document_law.specs.Version.{IsShownBy, IsNumbered}
 
--- each point of the draft is added with its level, then each line
-abbrev pub edits_of : Draft → List Edit
-edits_of d = map (λ v. AddPoint v.0 v.1) d.points ++ map (λ l. AddLine l.0 l.1) d.lines
+-- a point of a draft is added with its level
+abbrev pub point_edit : Vertex → Edit
+point_edit v = AddPoint v.0 v.1
 
--- the edit as the next entry of author 0
-abbrev pub next_entry : List Entry → Edit → Entry
-next_entry past edit = record { author = 0; number = entries_of 0 past + 1; edit = edit }
+-- a line of a draft is added
+abbrev pub line_edit : LineKind × List Coords → Edit
+line_edit l = AddLine l.0 l.1
+
+-- each point of the draft is added, then each line
+abbrev pub edits_of : Draft → List Edit
+edits_of d = map point_edit d.points ++ map line_edit d.lines
 
 -- the entries with each of the edits as the next entry of author 0
 abbrev pub logged : List Entry → List Edit → List Entry
 logged past [] = past
-logged past (edit ∷ edits) = logged (past ++ next_entry past edit ∷ []) edits
+logged past (edit ∷ edits) = logged (past ++ next_entry 0 past edit ∷ []) edits
 
 -- all facets of a content, each with whether it is kept
 abbrev pub faces_of : Content → List Face

@@ -1,26 +1,11 @@
--- What a draft is loaded as: its edits, the journal that they make, and the first that is refused.
-use Rattle.std.specs.Prelude.{◌≡◌, ℕ, ℤ, ◌+◌, ◌-◌, ◌++◌, List, [], ◌∷◌, length, map, Option, None, Some}
+-- What a draft is loaded as: the journal that its edits make, and the first of them that is refused.
+use Rattle.std.specs.Prelude.{◌≡◌, ℕ, ◌+◌, ◌-◌, List, [], ◌∷◌, length, Option, None, Some}
 use Rattle.ground_model.specs.declared.edit.Edit.{Edit}
-use Rattle.ground_model.specs.declared.edit.Edit.TheVariants.{AddPoint, AddLine}
 use Rattle.ground_model.specs.declared.limits.Limits.{Limits}
-use Rattle.ground_model.specs.declared.line.LineKind.{LineKind}
 use Rattle.ground_model.specs.declared.refusal.Refusal.{Refusal}
-use Rattle.ground_model.specs.Place.{Coords}
 use Rattle.turn_lock.specs.declared.journal.Journal.{Journal}
 use Rattle.landxml_surface.specs.declared.draft.Draft.{Draft}
 use Rattle.store.specs.Versions.{newest_refusal, with_next}
-
--- a point of a draft is added with its level
-abbrev pub point_edit : Coords × ℤ → Edit
-point_edit v = AddPoint v.0 v.1
-
--- a line of a draft is added
-abbrev pub line_edit : LineKind × List Coords → Edit
-line_edit l = AddLine l.0 l.1
-
--- each point of the draft is added, then each line
-abbrev pub edits_of : Draft → List Edit
-edits_of d = map point_edit d.points ++ map line_edit d.lines
 
 -- the journal of a draft's surface before its edits
 abbrev pub ground_of : Draft → Limits → Journal

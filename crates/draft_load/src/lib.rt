@@ -3,7 +3,9 @@
 #![tactic(auto)]
 
 mod fault;
+mod law;
 mod loading;
 
 pub use fault::LoadFault;
+pub use law::load_law;
 pub use loading::load;

@@ -4,7 +4,8 @@ ghost use Rattle.std.specs.Prelude.{◌≡◌, ◌<◌, ◌≤◌, ◌+◌, ◌-
 ghost use Rattle.ground_num.specs.Head.{IsOrigin};
 ghost use Rattle.ground_model.specs.declared.refusal.Refusal.{Refusal as Cause};
 ghost use Rattle.draft_load.specs.declared.fault.LoadFault.TheVariants as faults;
-ghost use Rattle.draft_load.specs.Loads.{point_edit, line_edit, edits_of, ground_of, Ends, Loads, Refuses};
+ghost use Rattle.document_law.specs.Reloaded.{point_edit, line_edit, edits_of};
+ghost use Rattle.draft_load.specs.Loads.{ground_of, Ends, Loads, Refuses};
 
 use crate::fault::LoadFault;
 use ground_model::{Edit, Level, Limits, LineKind, Place, Places, Refusal};

@@ -1,7 +1,8 @@
 use Rattle.std.proofs.Common.{[], ◌∷◌, List, subst}
 use Rattle.ground_model.specs.declared.line.LineKind.{LineKind}
 use Rattle.ground_model.specs.Place.{Coords}
-use Rattle.draft_load.specs.Loads.{line_edit, Loads, Refuses}
+use Rattle.document_law.specs.Reloaded.{line_edit}
+use Rattle.draft_load.specs.Loads.{Loads, Refuses}
 use Rattle.draft_load.proofs.Edits.{loads-more, refuses-more}
 use Rattle.draft_load.proofs.loading.add_lines.Goals as goal
 

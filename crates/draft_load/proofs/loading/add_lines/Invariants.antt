@@ -1,6 +1,7 @@
 use Rattle.std.proofs.Common.{take}
 use Rattle.std.specs.Prelude.{map}
-use Rattle.draft_load.specs.Loads.{line_edit, Loads}
+use Rattle.document_law.specs.Reloaded.{line_edit}
+use Rattle.draft_load.specs.Loads.{Loads}
 use Rattle.draft_load.proofs.loading.add_lines.Given as goal
 
 abbrev pub invariant-loop-line : goal.invariant-loop-line

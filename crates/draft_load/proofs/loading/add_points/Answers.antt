@@ -1,7 +1,8 @@
 use Rattle.std.proofs.Common.{[], ◌∷◌, length, subst}
 use Rattle.std.specs.Prelude.{ℤ}
 use Rattle.ground_model.specs.Place.{Coords}
-use Rattle.draft_load.specs.Loads.{point_edit, Loads, Refuses}
+use Rattle.document_law.specs.Reloaded.{point_edit}
+use Rattle.draft_load.specs.Loads.{Loads, Refuses}
 use Rattle.draft_load.proofs.Edits.{loads-more, refuses-more}
 use Rattle.draft_load.proofs.loading.add_points.Goals as goal
 

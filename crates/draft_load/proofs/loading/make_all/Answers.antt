@@ -2,7 +2,8 @@ use Rattle.std.proofs.Common.{List, length, subst}
 use Rattle.std.specs.Prelude.{ℤ, map, IfOk}
 use Rattle.ground_model.specs.declared.line.LineKind.{LineKind}
 use Rattle.ground_model.specs.Place.{Coords}
-use Rattle.draft_load.specs.Loads.{point_edit, line_edit, Ends, Loads, Refuses}
+use Rattle.document_law.specs.Reloaded.{point_edit, line_edit}
+use Rattle.draft_load.specs.Loads.{Ends, Loads, Refuses}
 use Rattle.draft_load.proofs.Edits.{refuses-first, ends-both}
 use Rattle.draft_load.proofs.loading.make_all.Goals as goal
 
