@@ -4,5 +4,6 @@ pub mod Searches
 pub mod Joined
 pub mod SelfCrossings
 pub mod NextPoints
+pub mod Ranks
 pub mod Rows
 pub mod EnoughPoints

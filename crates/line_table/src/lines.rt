@@ -7,16 +7,16 @@ ghost use Rattle.ground_model.specs.Table.{no_lines, with_line, without_line, pl
 use crate::line::Line;
 use crate::live::LiveLines;
 use ground_model::{LineId, LineKind, Places};
+use page_index::PageIndex;
 use page_vec::Shared;
 use std::alloc::{AllocError, Global};
-use std::collections::BTreeMap;
 use std::marker::Model;
 
 /// The live lines by their numbers, and the number that the next one gets: from 1 in the order of
 /// the additions, and never again.
 #[derive(Drop)]
 pub struct Lines {
-    pub(crate) lines: BTreeMap<u32, Shared<Line>>,
+    pub(crate) lines: PageIndex<Shared<Line>>,
     next: u32,
     places: u64,
     pub(crate) alloc: Global,
@@ -32,9 +32,9 @@ impl Model for Lines {
 
     ghost coded = { coded_table };
 
-    ghost view = { λ t. record { lines = finmap.from_sorted t.lines.entries; next = t.next } };
+    ghost view = { λ t. record { lines = finmap.from_sorted t.lines; next = t.next } };
 
-    ghost invariant = { λ t. IsSound t.lines.entries t.next t.places };
+    ghost invariant = { λ t. IsSound t.lines t.next t.places };
 }
 
 impl Lines {
@@ -43,7 +43,7 @@ impl Lines {
         ensures { result ≡ no_lines }
     {
         Lines {
-            lines: BTreeMap::new(alloc),
+            lines: PageIndex::empty(alloc),
             next: 1,
             places: 0,
             alloc,
@@ -55,7 +55,7 @@ impl Lines {
         ensures len { result ≡ finmap.len self.now.lines }
         ensures few { result ≤ 65535 }
     {
-        self.lines.len() as u32
+        self.lines.len()
     }
 
     /// The number that the next line gets.
@@ -74,7 +74,8 @@ impl Lines {
     }
 
     /// Adds a line under the next number, on a copy of the places. Out of memory the table is as
-    /// before, and the places come back. Its cost is that of the copy and of a search by number.
+    /// before, and the places come back. Its cost is that of the copy, of a search by number, and of
+    /// the pages on the way that others hold.
     pub fn add(&mut self, kind: LineKind, places: Places) -> Result<LineId, (AllocError, Places)>
         requires few { finmap.len self.old.lines < 65535 }
         requires numbers { self.old.next < 2 ^ 32 - 1 }
@@ -88,8 +89,8 @@ impl Lines {
             return Err((AllocError, places));
         };
         let id = self.next;
-        match self.lines.insert(id, line) {
-            Ok(_) => {
+        match self.lines.set(id as u64, line) {
+            Ok(()) => {
                 self.next = id + 1;
                 self.places += places.len() as u64;
                 Ok(LineId(id))
@@ -100,19 +101,20 @@ impl Lines {
 
     /// Takes a line out. None exactly for a number that is not live, which takes no memory and never
     /// fails. The places are a copy, since other versions may hold the line; out of memory the table
-    /// is as before. Its cost is that of the copy and of a search by number.
+    /// is as before. Its cost is that of the copy, of a search by number, and of the pages on the way
+    /// that others hold.
     pub fn take(&mut self, id: LineId) -> Result<Option<(LineKind, Places)>, AllocError>
         ensures line { IfOk result (λ found. option_map (λ l. record { kind = l.0; places = l.1 }) found ≡ finmap.get self.old.lines id.0) }
         ensures ok { OnOk result (self.new ≡ without_line self.old id.0) }
         ensures err { OnErr result (self.new ≡ self.old) }
         ensures absent { finmap.get self.old.lines id.0 ≡ None → IsOk result }
     {
-        let Some(line) = self.lines.get(&id.0) else {
+        let Some(line) = self.lines.get(id.0 as u64) else {
             return Ok(None);
         };
         let kind = line.get().kind();
         let places = Places::from_slice(self.alloc, line.get().places().as_slice())?;
-        self.lines.remove(&id.0);
+        self.lines.remove(id.0 as u64)?;
         self.places -= places.len() as u64;
         Ok(Some((kind, places)))
     }
@@ -121,7 +123,7 @@ impl Lines {
     pub fn get(&self, id: LineId) -> Option<(LineKind, &Places)>
         ensures { option_map (λ l. record { kind = l.0; places = l.1.now }) result ≡ finmap.get self.now.lines id.0 }
     {
-        match self.lines.get(&id.0) {
+        match self.lines.get(id.0 as u64) {
             Some(line) => Some((line.get().kind(), line.get().places())),
             None => None,
         }
@@ -131,18 +133,19 @@ impl Lines {
     pub(crate) fn line(&self, id: LineId) -> Option<&Line>
         ensures { option_copied result ≡ finmap.get self.now.lines id.0 }
     {
-        match self.lines.get(&id.0) {
+        match self.lines.get(id.0 as u64) {
             Some(line) => Some(line.get()),
             None => None,
         }
     }
 
-    /// A table that equals this one and shares its lines. It costs a reference a line.
+    /// A table that equals this one and shares its lines. It costs one reference, whatever the number
+    /// of lines.
     pub fn share(&self) -> Result<Lines, AllocError>
         ensures { IfOk result (λ t. t ≡ self.now) }
     {
         Ok(Lines {
-            lines: self.lines.clone()?,
+            lines: self.lines.share()?,
             next: self.next,
             places: self.places,
             alloc: self.alloc,
@@ -153,7 +156,7 @@ impl Lines {
     pub fn iter(&self) -> LiveLines<'_>
         ensures { result ≡ finmap.entries self.now.lines }
     {
-        LiveLines::new(self.lines.iter())
+        LiveLines::new(&self.lines)
     }
 }
 

@@ -13,6 +13,7 @@ ghost use Rattle.line_table.specs.Ends.{AreEnds, goes_on as goes_on_of, next_on 
 use crate::line::Line;
 use crate::lines::Lines;
 use crate::links::Links;
+use crate::live::LiveLines;
 use crate::segment::{Link, lies_on};
 use ground_model::{LineId, Piece, Place};
 use std::alloc::AllocError;
@@ -97,9 +98,8 @@ impl Lines {
     fn count_over(&self, p: Place, q: Place) -> u16
         ensures { result ≡ count_over_of (live self.now) p q }
     {
-        self.lines
-            .values()
-            .filter(|line| spans(line.get(), p, q))
+        LiveLines::new(&self.lines)
+            .filter(|(_, line)| spans(line, p, q))
             .count() as u16
     }
 }

@@ -2,4 +2,4 @@ use Rattle.line_table.proofs.Tables.{empty-view}
 use Rattle.line_table.proofs.lines.Lines.empty.Goals as goal
 
 pub returns : goal.returns
-returns c = empty-view c.new.result.entries c.new.ensures.empty
+returns c = empty-view c.empty.result c.empty.ensures.empty
