@@ -1,6 +1,7 @@
 //! The desk: how it is opened, and what a pass does in a turn.
 
 ghost use Rattle.std.specs.Prelude.{◌≡◌, ◌++◌, ◌<◌, ◌≤◌, vec_len, vec_capacity, IfOk, IfErr};
+ghost use Rattle.ground_model.specs.History.{IsLegal};
 ghost use Rattle.turn_lock.specs.Journal.{IsPrefix};
 ghost use Rattle.turn_lock.specs.Seat.{AreFirst};
 ghost use Rattle.desk.specs.Turns.{Finds, CommitsInTurn, AppliesInTurn};
@@ -72,8 +73,11 @@ impl Desk {
         requires { pass.table ≡ self.now.table }
         ensures turn { Finds pass result.0 result.0.seen }
         ensures version { IfOk result.1 (λ version. version.journal ≡ result.0.seen) }
+        ensures legal { IsLegal result.0.seen.limits result.0.seen.entries }
     {
         let (turn, store) = self.lock.take(rt, pass.seat);
+        // Only the proof reads it: a store's journal is legal.
+        let _front = store.front();
         let version = store.newest();
         let seat = turn.leave(store);
         (Pass { seat }, version)
@@ -85,11 +89,14 @@ impl Desk {
         requires desk { pass.table ≡ self.now.table }
         requires plan { IsPrefix plan.journal pass.seen }
         ensures turn { CommitsInTurn pass result.0 plan result.1 }
+        ensures legal { IsLegal result.0.seen.limits result.0.seen.entries }
     {
         let author = pass.author();
         let copy = plan.copied_edit();
         let (turn, mut store) = self.lock.take(rt, pass.seat);
         let settled = settle_plan::<Brand>(&mut store, author, &plan, copy, Blank::new(1));
+        // Only the proof reads it: a store's journal is legal.
+        let _front = store.front();
         let seat = end_turn(turn, store, &settled);
         (Pass { seat }, Commit::of(settled, plan))
     }
@@ -100,11 +107,14 @@ impl Desk {
     pub fn apply<R: Wait>(&self, rt: &R, pass: Pass, edit: Edit) -> (Pass, Applied)
         requires { pass.table ≡ self.now.table }
         ensures turn { AppliesInTurn pass result.0 edit result.1 }
+        ensures legal { IsLegal result.0.seen.limits result.0.seen.entries }
     {
         let author = pass.author();
         let copy = copied(self.alloc, &edit);
         let (turn, mut store) = self.lock.take(rt, pass.seat);
         let settled = settle_edit::<Brand>(&mut store, author, &edit, copy, Blank::new(1));
+        // Only the proof reads it: a store's journal is legal.
+        let _front = store.front();
         let seat = end_turn(turn, store, &settled);
         (Pass { seat }, Applied::of(settled, edit))
     }

@@ -1,3 +1,7 @@
+use Rattle.std.proofs.Common.{ap, sym, subst}
+use Rattle.ground_model.specs.History.{IsLegal}
+use Rattle.turn_lock.specs.Seat.{Seat}
+use Rattle.turn_lock.specs.declared.journal.Journal.{Journal}
 use Rattle.store.specs.Answers.{at_front}
 use Rattle.desk.proofs.Settling.{begun-by, turned, settled-in, settled-seen}
 use Rattle.desk.proofs.desk.Desk.apply.Goals as goal
@@ -15,4 +19,5 @@ returns g c = record {
     applies = c.of.ensures c.args.pass.number c.take-turn.result.1.journal c.end_turn-seat.result.seen
         (settled-seen c.take-turn.result.0 c.end_turn-seat.result c.author-author.result c.args.pass.number c.take-turn.result.1.journal c.settle_edit-settled.new.store.journal (at_front c.take-turn.result.1.journal c.args.edit) c.settle_edit-settled.result c.author-author.ensures.author c.end_turn-seat.ensures c.settle_edit-settled.ensures.answer);
   };
+  legal = subst (λ (j : Journal). IsLegal j.limits j.entries) (sym (ap (λ (s : Seat). s.seen) c.end_turn-seat.ensures)) c.front-front.ensures.legal;
 }

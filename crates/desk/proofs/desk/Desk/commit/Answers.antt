@@ -1,3 +1,7 @@
+use Rattle.std.proofs.Common.{ap, sym, subst}
+use Rattle.ground_model.specs.History.{IsLegal}
+use Rattle.turn_lock.specs.Seat.{Seat}
+use Rattle.turn_lock.specs.declared.journal.Journal.{Journal}
 use Rattle.turn_lock.proofs.Prefix.{prefix_trans}
 use Rattle.store.specs.Versions.{as_pending}
 use Rattle.desk.proofs.Settling.{begins-found, begun-by, turned, settled-in, settled-seen}
@@ -20,4 +24,5 @@ returns g c = record {
     commits = c.of.ensures c.args.pass.number c.take-turn.result.1.journal c.end_turn-seat.result.seen
         (settled-seen c.take-turn.result.0 c.end_turn-seat.result c.author-author.result c.args.pass.number c.take-turn.result.1.journal c.settle_plan-settled.new.store.journal (as_pending c.args.plan) c.settle_plan-settled.result c.author-author.ensures.author c.end_turn-seat.ensures c.settle_plan-settled.ensures);
   };
+  legal = subst (λ (j : Journal). IsLegal j.limits j.entries) (sym (ap (λ (s : Seat). s.seen) c.end_turn-seat.ensures)) c.front-front.ensures.legal;
 }
