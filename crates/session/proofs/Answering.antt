@@ -1,15 +1,12 @@
 -- The reads and writes of a session, and that it answers before it reads on.
-use Rattle.std.proofs.Common.{◌≡◌, ℕ, ◌≤◌, ◌⊎◌, inl, inr, ⊎_elim, Bool, true, false, cond, List, [], ◌∷◌, ◌++◌, length, take, Option, None, Some, IfSome, is_some, refl, sym, ap, subst, ◌∙◌, append_assoc, arith, map}
+use Rattle.std.proofs.Common.{◌≡◌, ℕ, ◌≤◌, ◌⊎◌, inl, inr, ⊎_elim, List, [], ◌∷◌, ◌++◌, length, Option, None, Some, IfSome, refl, sym, ap, subst, ◌∙◌, append_assoc, arith, map}
 use Rattle.std.proofs.lemmas.List.{append-nil, take-append-le, take_all}
-use Rattle.std.specs.List.{concat, flat_map}
+use Rattle.std.specs.List.{concat}
 use Rattle.ground_io.specs.Order.{Event, Received, Sent}
-use Rattle.ground_model.specs.declared.edit.Edit.{Edit}
 use Rattle.ground_model.specs.declared.entry.Entry.{Entry}
-use Rattle.ground_model.specs.Answer.{next_entry}
 use Rattle.ground_model.specs.History.{content_of}
 use Rattle.landxml_write.specs.Text.{document}
 use Rattle.line_protocol.specs.declared.reply.Reply.{Reply}
-use Rattle.line_protocol.specs.declared.reply.Reply.TheVariants.{Held, Planned, Done, Conflict, Refused, Level, Contour, Volume, Stat, Export, Bye, Syntax, Range, NoPlan, Memory}
 use Rattle.line_protocol.specs.Replies.{reply_text}
 use Rattle.store.specs.Shown.{shown_of, shown_by}
 use Rattle.turn_lock.specs.Setting.{Setting, setting}
@@ -17,9 +14,8 @@ use Rattle.turn_lock.specs.declared.journal.Journal.{Journal}
 use Rattle.session.specs.Lines.{whole_lines}
 use Rattle.session.specs.Order.{received, sent, IsAnswered, AnswersInTime}
 use Rattle.session.specs.Texts.{document_at, document_of, text_at, held_text, texts}
-use Rattle.session.specs.Told.{export_front, done_front}
-use Rattle.session.specs.Talking.{Position, ServesLine, with_entry, entries_after}
-use Rattle.session.proofs.Exchanges.{export_here, IsThere, AreThere}
+use Rattle.session.specs.Told.{export_front}
+use Rattle.session.proofs.Exchanges.{IsThere, AreThere}
 
 -- ---- what was received and sent
 
@@ -73,7 +69,7 @@ there-front : (h : List Entry) (replies later : List Reply) → AreThere h (repl
 there-front h [] later there = tt
 there-front h (reply ∷ replies) later there = (there.0, there-front h replies later there.1)
 
--- ---- the text of a reply by the session that holds the newest version
+-- ---- the text of a reply by a session that holds a version
 
 document-held : (j : Journal) (front : Option ℕ) → IfSome front (λ f. f ≡ length j.entries) → document_of (λ _. document (shown_by j)) front ≡ document_of (document_at j.head j.entries) front
 document-held j None here = refl
@@ -83,46 +79,9 @@ pub held-text : (j : Journal) (reply : Reply) → IfSome (export_front reply) (�
 unfolding held_text text_at
 held-text j reply here = ap (λ text. reply_text j.head.origin reply ++ text) (document-held j (export_front reply) here)
 
-export_makes_none : (reply : Reply) (f : ℕ) → export_front reply ≡ Some f → done_front reply ≡ None
-export_makes_none (Export f bytes) g e = refl
-export_makes_none (Held f) g e = cc
-export_makes_none (Planned f size) g e = cc
-export_makes_none (Done f line) g e = cc
-export_makes_none (Conflict f mark) g e = cc
-export_makes_none (Refused f cause) g e = cc
-export_makes_none (Level f z) g e = cc
-export_makes_none (Contour f cuts) g e = cc
-export_makes_none (Volume f v) g e = cc
-export_makes_none (Stat f points lines) g e = cc
-export_makes_none Bye g e = cc
-export_makes_none (Syntax offset) g e = cc
-export_makes_none Range g e = cc
-export_makes_none NoPlan g e = cc
-export_makes_none Memory g e = cc
-
-no_document : (j k : Journal) (reply : Reply) → setting j ≡ setting k → export_front reply ≡ None → held_text j reply ≡ held_text k reply
-unfolding held_text
-no_document j k reply same none =
-    rw none (ap (λ (set : Setting). reply_text set.head.origin reply ++ []) same)
-
--- a line's reply by the session that holds the newest version after it
-pub line-held : (author : ℕ) (change : Position × Position) (line : List ℕ) (reply : Reply) → ServesLine author change line reply → held_text change.1.journal reply ≡ text_at (setting change.0.journal) change.0.journal.entries reply
-line-held author change line reply serves = by (export_front reply) refl ∙ held-text change.0.journal reply (export_here (setting change.0.journal) change.0.journal.entries change.0.pending line reply serves.is)
-  where
-    by : (front : Option ℕ) → export_front reply ≡ front → held_text change.1.journal reply ≡ held_text change.0.journal reply
-    by None is = no_document change.1.journal change.0.journal reply serves.stays is
-    by (Some f) is =
-        let kept : change.1.journal.entries ≡ change.0.journal.entries = rw (export_makes_none reply f is) at serves.entries in
-        ap (λ (j : Journal). held_text j reply) (λ i. record { head = (serves.stays i).head; limits = (serves.stays i).limits; entries = kept i })
-
--- the entries after a reply begin with those before it
-pub entries-longer : (author : ℕ) (h : List Entry) (edit : Option Edit) (reply : Reply) → (more : List Entry) × (entries_after author h edit reply ≡ h ++ more)
-entries-longer author h edit reply = by (is_some (done_front reply)) edit
-  where
-    by : (made : Bool) (edit : Option Edit) → (more : List Entry) × (cond made (with_entry author h edit) h ≡ h ++ more)
-    by false edit = ([], sym (append-nil h))
-    by true None = ([], sym (append-nil h))
-    by true (Some e) = (next_entry author h e ∷ [], refl)
+pub no-export : (set : Setting) (h : List Entry) (j : Journal) (reply : Reply) → setting j ≡ set → export_front reply ≡ None → held_text j reply ≡ text_at set h reply
+unfolding held_text text_at
+no-export set h j reply same none = rw none (ap (λ (set : Setting). reply_text set.head.origin reply ++ []) same)
 
 pub texts_more : (set : Setting) (h : List Entry) (replies : List Reply) (reply : Reply) → texts set h (replies ++ reply ∷ []) ≡ texts set h replies ++ text_at set h reply
 texts_more set h [] reply = append-nil (text_at set h reply)

@@ -7,6 +7,8 @@ pub mod Sessions
 pub mod Streams
 pub mod Exchanges
 pub mod Answering
-pub mod Turns
+pub mod Stepped
 pub mod Moves
 pub mod Runs
+mod Served
+pub mod Alone

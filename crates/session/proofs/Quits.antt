@@ -173,5 +173,6 @@ bye_line : (set : Setting) (h : List Entry) (pending : Option Pending) (line : L
 bye_line set h pending line None reply a = rw a.2 refl
 bye_line set h pending line (Some s) reply a = bye_within set h pending (request_within set.head.origin s) reply a ∙ within_bye set s
 
-pub bye_is : (author : ℕ) (change : Position × Position) (line : List ℕ) (reply : Reply) → ServesLine author change line reply → is_bye reply ≡ is_quit line
-bye_is author change line reply a = bye_line (setting change.0.journal) change.0.journal.entries change.0.pending line (spoken line) reply a.is
+pub bye_is : (author : ℕ) (change : Position × Position) (line : List ℕ) (reply : Reply) (own : List ℕ) → ServesLine author change line reply own → is_bye reply ≡ is_quit line
+bye_is author change line reply own (inl s) = bye_line (setting change.0.held) change.0.held.entries change.0.pending line (spoken line) reply s.is
+bye_is author change line reply own (inr s) = bye_line (setting s.found) s.found.entries change.0.pending line (spoken line) reply s.is

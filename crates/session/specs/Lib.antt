@@ -4,7 +4,10 @@ pub mod Told
 pub mod Table
 pub mod Transcript
 pub mod Order
+pub mod Fronts
 pub mod Talk
 pub mod Talking
 pub mod Sessions
+pub mod Turns
 pub mod Runs
+pub mod Alone

@@ -13,9 +13,8 @@ use Rattle.store.specs.declared.plan.PlanFault.{PlanFault}
 use Rattle.store.specs.declared.plan.PlanFault.TheVariants as faults
 use Rattle.store.specs.declared.answers.Applied.TheVariants as applied
 use Rattle.store.specs.declared.answers.Commit.TheVariants as commits
-use Rattle.session.specs.Told.{pending_after, edit_made}
+use Rattle.session.specs.Told.{pending_after, edit_made, entries_after}
 use Rattle.session.specs.Transcript.{IsAnswer}
-use Rattle.session.specs.Talking.{Position, entries_after}
 use Rattle.session.specs.declared.session.Work.{Work}
 use Rattle.session.specs.declared.session.Work.TheVariants as works
 use Rattle.session.specs.declared.session.WorkDone.{WorkDone}
@@ -26,10 +25,6 @@ pub record SessionView : Type 0 where
   pub author : ℕ
   pub journal : Journal
   pub pending : Option Pending
-
--- what a session works on, where the store has this journal
-abbrev pub position : Journal → SessionView → Position
-position j s = record { journal = j; pending = s.pending }
 
 -- whether a request takes a turn on the store
 abbrev pub takes_turn : Option Pending → Request → Bool

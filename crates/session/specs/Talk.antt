@@ -12,7 +12,8 @@ use Rattle.line_protocol.specs.Grammar.{spoken}
 use Rattle.session.specs.Lines.{ended, whole_lines, unfinished}
 use Rattle.session.specs.Order.{received as received_in, AnswersInTime}
 use Rattle.session.specs.Texts.{text_at}
-use Rattle.session.specs.Told.{fronts_told}
+use Rattle.session.specs.Fronts.{Visits}
+use Rattle.session.specs.Told.{told_nothing, fronts_told}
 use Rattle.session.specs.Transcript.{Sitting, Transcript}
 use Rattle.session.specs.declared.conversation.Ended.{Ended}
 use Rattle.session.specs.declared.conversation.Ended.TheVariants.{Quit, End, Cut, LongLine, Spent, ReadFault, WriteFault, Memory}
@@ -100,8 +101,8 @@ pub record State : Type 0 where
   pub entries : List Entry
   pub wire : WireView
 
--- a session, in whatever pieces its bytes came, which has the store to itself: nobody else's entries came in between
-pub record Talk (s : Sitting) (budget : ℕ) (before after : State) (end : Ended) : Type 0 where
+-- a session, in whatever pieces its bytes came, whose first version is at this front and whose turns found these fronts
+pub record Visit (s : Sitting) (first : ℕ) (fronts : List ℕ) (budget : ℕ) (before after : State) (end : Ended) : Type 0 where
   pub read : List ℕ
   pub lines : List (List ℕ)
   pub replies : List Reply
@@ -111,10 +112,17 @@ pub record Talk (s : Sitting) (budget : ℕ) (before after : State) (end : Ended
   pub short : All (λ (line : List ℕ). length line < line_limit) (ended read)
   pub taken : AreTaken (up_to_quit (whole_lines read)) lines end
   pub transcript : Transcript s after.entries lines replies
+  pub turns : Visits s after.entries first told_nothing lines replies fronts
   pub begins : (more : List Entry) × (after.entries ≡ before.entries ++ more)
-  pub alone : length after.entries ≡ length before.entries + length (fronts_told replies)
   pub written : AreWritten (text_at s.setting after.entries) before.wire.written after.wire.written replies end
   pub ordered : GoesOnWith before.wire.order after.wire.order events
   pub received : received_in events ≡ read
   pub in_time : AnswersInTime s.setting after.entries events replies
   pub ending : IsEnding budget read after.wire.left end
+
+-- a session which has the store to itself: nobody else's entries came in between
+pub record Talk (s : Sitting) (budget : ℕ) (before after : State) (end : Ended) : Type 0 where
+  pub first : ℕ
+  pub fronts : List ℕ
+  pub visit : Visit s first fronts budget before after end
+  pub alone : length after.entries ≡ length before.entries + length (fronts_told visit.replies)

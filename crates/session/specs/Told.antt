@@ -1,8 +1,9 @@
 -- What a session knows by the replies so far. Each row is spelled out, so that none is forgotten.
-use Rattle.std.specs.Prelude.{ℕ, List, [], ◌∷◌, Option, Some, None}
+use Rattle.std.specs.Prelude.{ℕ, List, [], ◌∷◌, ◌++◌, Option, Some, None, is_some, if◌then◌else◌}
 use Rattle.std.specs.List.{flat_map}
 use Rattle.ground_model.specs.declared.edit.Edit.{Edit}
-use Rattle.ground_model.specs.Answer.{Pending}
+use Rattle.ground_model.specs.declared.entry.Entry.{Entry}
+use Rattle.ground_model.specs.Answer.{Pending, next_entry}
 use Rattle.line_protocol.specs.declared.reply.Reply.{Reply}
 use Rattle.line_protocol.specs.declared.reply.Reply.TheVariants.{Held, Planned, Done, Conflict, Refused, Level, Contour, Volume, Stat, Export, Bye, Syntax, Range, NoPlan, Memory}
 use Rattle.line_protocol.specs.declared.request.Request.{Request}
@@ -162,3 +163,12 @@ front_list (Some f) = f ∷ []
 -- the fronts of the replies that an edit was made, in order
 abbrev pub fronts_told : List Reply → List ℕ
 fronts_told replies = flat_map (λ reply. front_list (done_front reply)) replies
+
+-- the entries with the author's next one, where an edit was made
+abbrev pub with_entry : ℕ → List Entry → Option Edit → List Entry
+with_entry author h None = h
+with_entry author h (Some edit) = h ++ next_entry author h edit ∷ []
+
+-- the entries after a reply: with one more where it reports that the edit was made
+abbrev pub entries_after : ℕ → List Entry → Option Edit → Reply → List Entry
+entries_after author h edit reply = if is_some (done_front reply) then with_entry author h edit else h

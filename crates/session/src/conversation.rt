@@ -1,31 +1,27 @@
 //! A session over a link.
 
-ghost use Rattle.std.specs.Prelude.{◌≡◌, ◌≢◌, ◌+◌, ◌≤◌, ◌<◌, ◌^◌, [], true, None, Some, IfOk, length, take};
+ghost use Rattle.std.specs.Prelude.{◌≡◌, ◌≢◌, ◌+◌, ◌≤◌, ◌<◌, ◌^◌, ◌∷◌, ℕ, List, [], true, None, Some, IfOk, length, take};
 ghost use Rattle.ground_io.specs.Causes.{HasCause, Rose};
 ghost use Rattle.ground_io.specs.Order.{AddsRead};
 ghost use Rattle.ground_io.specs.Wires.{wire_view};
 ghost use Rattle.ground_model.specs.History.{IsLegal};
 ghost use Rattle.line_protocol.specs.Replies.{HasVolumeWithin};
-ghost use Rattle.turn_lock.specs.Journal.{IsPrefix};
+ghost use Rattle.turn_lock.specs.declared.journal.Journal.{Journal as History};
+ghost use Rattle.turn_lock.specs.Journal.{IsPrefix, OthersAdded};
 ghost use Rattle.turn_lock.specs.Setting.{setting};
-ghost use Rattle.session.specs.Sessions.{TurnStep, takes_turn, position};
-ghost use Rattle.session.specs.Talk.{Talk};
-ghost use Rattle.session.specs.Talking.{Serves, ServesLine, is_bye, Answered, GoesOn, ReadsFront};
-ghost use Rattle.session.specs.declared.conversation.Ended.TheVariants.{Quit, ReadFault, WriteFault};
+ghost use Rattle.session.specs.Talk.{Visit, Talk};
+ghost use Rattle.session.specs.Talking.{Serves, ServesLine, position, is_bye, Answered, GoesOn, ReadsFront};
+ghost use Rattle.session.specs.Turns.{Conversed};
+ghost use Rattle.session.specs.declared.conversation.Ended.TheVariants.{ReadFault, WriteFault, Memory};
 
 use crate::answer::{origin, put_answer};
 use crate::line::{LINE_LIMIT, LineBuffer};
-use crate::session::{Session, needs_turn, own_step, turn_step};
+use crate::session::{Session, needs_turn, own_step};
+use crate::turns::Turns;
 use ground_io::{Failed, Link, Sink};
 use line_protocol::{LineFault, Reply, Request, read_request};
-use page_vec::Steps;
 use std::alloc::Global;
-use std::marker::Brand;
-use std::sync::ledger::{Blank, Ledger};
 use store::Store;
-
-/// The author of the edits of a session that has the store to itself.
-const AUTHOR: u16 = 1;
 
 /// How many bytes one read takes at the most.
 const PIECE_SIZE: usize = 4096;
@@ -51,56 +47,48 @@ pub enum Ended {
     Memory,
 }
 
-// Answers a request in a turn on the store, counted by a counter of its own.
-fn turn_on<L: Ledger>(
-    store: &mut Store,
-    session: &mut Session,
-    request: Request,
-    blank: Blank,
-) -> Reply
-    requires name { blank.name ≡ L.name }
-    requires parts { blank.parts ≡ L.parts }
-    requires writable { 0 < L.parts }
-    requires turn { takes_turn session.old.pending request ≡ true }
-    requires prefix { IsPrefix session.old.journal store.old.journal }
-    ensures step { TurnStep (store.old.journal, store.new.journal) session.old session.new request result }
-    ensures volume { HasVolumeWithin result }
-{
-    turn_step(store, session, request, &mut Steps::<L>::new(blank))
-}
-
-// The reply to a request within its limits, of the one session of the store, which holds its newest
-// version.
-fn reply_to_request(
+// The reply to a request within its limits.
+fn reply_to_request<T: Turns>(
     alloc: Global,
-    store: &mut Store,
+    turns: &mut T,
     session: &mut Session,
     request: Request,
 ) -> Reply
-    requires { session.old.journal ≡ store.old.journal }
-    ensures serves { Serves session.old.author (position store.old.journal session.old, position store.new.journal session.new) request result }
-    ensures held { session.new.journal ≡ store.new.journal }
+    requires ready { T.Ready turns.old }
+    requires author { session.old.author ≡ T.number turns.old }
+    requires prefix { IsPrefix session.old.journal (T.seen turns.old) }
+    ensures serves { (own : List ℕ) × (T.Finds turns.old turns.new own) × Serves (T.number turns.old) (position (T.seen turns.old) session.old, position (T.seen turns.new) session.new) request result own }
     ensures author { session.new.author ≡ session.old.author }
+    ensures ready { T.Ready turns.new }
+    ensures number { T.number turns.new ≡ T.number turns.old }
     ensures volume { HasVolumeWithin result }
 {
     if needs_turn(session, &request) {
-        turn_on::<Brand>(store, session, request, Blank::new(1))
+        turns.turn(session, request)
     } else {
         own_step(alloc, session, request)
     }
 }
 
 // The reply to a line, whatever it is.
-fn reply_to_line(alloc: Global, store: &mut Store, session: &mut Session, line: &[u8]) -> Reply
-    requires held { session.old.journal ≡ store.old.journal }
+fn reply_to_line<T: Turns>(
+    alloc: Global,
+    turns: &mut T,
+    session: &mut Session,
+    line: &[u8],
+) -> Reply
+    requires ready { T.Ready turns.old }
+    requires author { session.old.author ≡ T.number turns.old }
+    requires prefix { IsPrefix session.old.journal (T.seen turns.old) }
     requires short { length line.now < 2 ^ 32 }
-    ensures serves { ServesLine session.old.author (position store.old.journal session.old, position store.new.journal session.new) line.now result }
-    ensures held { session.new.journal ≡ store.new.journal }
+    ensures serves { (own : List ℕ) × (T.Finds turns.old turns.new own) × ServesLine (T.number turns.old) (position (T.seen turns.old) session.old, position (T.seen turns.new) session.new) line.now result own }
     ensures author { session.new.author ≡ session.old.author }
+    ensures ready { T.Ready turns.new }
+    ensures number { T.number turns.new ≡ T.number turns.old }
     ensures volume { HasVolumeWithin result }
 {
     match read_request(alloc, line, origin(session)) {
-        Ok(request) => reply_to_request(alloc, store, session, request),
+        Ok(request) => reply_to_request(alloc, turns, session, request),
         Err(LineFault::Syntax(offset)) => Reply::Syntax(offset),
         Err(LineFault::Range) => Reply::Range,
         Err(LineFault::Memory) => Reply::Memory,
@@ -115,41 +103,49 @@ fn is_farewell(reply: &Reply) -> bool
 }
 
 // Answers one line, and says whether it asks to quit.
-fn answer_line<S: Sink>(
+fn answer_line<T: Turns, S: Sink>(
     alloc: Global,
-    store: &mut Store,
+    turns: &mut T,
     session: &mut Session,
     sink: &mut S,
     line: &[u8],
 ) -> Result<bool, Failed>
-    requires held { session.old.journal ≡ store.old.journal }
+    requires ready { T.Ready turns.old }
+    requires author { session.old.author ≡ T.number turns.old }
+    requires prefix { IsPrefix session.old.journal (T.seen turns.old) }
     requires short { length line.now < 2 ^ 32 }
-    ensures answered { Answered session.old.author (position store.old.journal session.old, position store.new.journal session.new) line.now (record { written = S.written sink.old; order = S.write_order sink.old }, record { written = S.written sink.new; order = S.write_order sink.new }) result }
+    ensures answered { (own : List ℕ) × (T.Finds turns.old turns.new own) × Answered (T.number turns.old) (position (T.seen turns.old) session.old, position (T.seen turns.new) session.new) line.now (record { written = S.written sink.old; order = S.write_order sink.old }, record { written = S.written sink.new; order = S.write_order sink.new }) own result }
     ensures cause { HasCause (S.write_faults sink.old) (S.write_faults sink.new) result }
     ensures rest { S.beside_writes sink.new ≡ S.beside_writes sink.old }
-    ensures held { session.new.journal ≡ store.new.journal }
     ensures author { session.new.author ≡ session.old.author }
+    ensures ready { T.Ready turns.new }
+    ensures number { T.number turns.new ≡ T.number turns.old }
 {
-    let reply = reply_to_line(alloc, store, session, line);
+    let reply = reply_to_line(alloc, turns, session, line);
+    turns.before_reply();
     put_answer(session, &reply, sink)?;
     Ok(is_farewell(&reply))
 }
 
 // Answers the lines that these bytes end, and keeps what comes after them.
-fn answer_bytes<L: Link>(
+fn answer_bytes<T: Turns, L: Link>(
     alloc: Global,
-    store: &mut Store,
+    turns: &mut T,
     session: &mut Session,
     link: &mut L,
     line: &mut LineBuffer,
     bytes: &[u8],
 ) -> Option<Ended>
-    requires held { session.old.journal ≡ store.old.journal }
+    requires ready { T.Ready turns.old }
+    requires author { session.old.author ≡ T.number turns.old }
+    requires prefix { IsPrefix session.old.journal (T.seen turns.old) }
     requires fits { length line.old + length bytes.now ≤ 131072 }
-    ensures goes { GoesOn session.old.author (record { journal = store.old.journal; pending = session.old.pending; rest = line.old; output = record { written = L.written link.old; order = L.write_order link.old } }) (record { journal = store.new.journal; pending = session.new.pending; rest = line.new; output = record { written = L.written link.new; order = L.write_order link.new } }) bytes.now result }
-    ensures held { session.new.journal ≡ store.new.journal }
+    ensures goes { (own : List ℕ) × (T.Finds turns.old turns.new own) × GoesOn (T.number turns.old) (record { position = position (T.seen turns.old) session.old; rest = line.old; output = record { written = L.written link.old; order = L.write_order link.old } }) (record { position = position (T.seen turns.new) session.new; rest = line.new; output = record { written = L.written link.new; order = L.write_order link.new } }) bytes.now own result }
     ensures author { session.new.author ≡ session.old.author }
-    ensures stays { setting store.new.journal ≡ setting store.old.journal }
+    ensures ready { T.Ready turns.new }
+    ensures number { T.number turns.new ≡ T.number turns.old }
+    ensures prefix { IsPrefix session.new.journal (T.seen turns.new) }
+    ensures stays { setting (T.seen turns.new) ≡ setting (T.seen turns.old) }
     ensures fault { result ≡ Some WriteFault → Rose (L.write_faults link.old) (L.write_faults link.new) }
     ensures no_fault { result ≢ Some WriteFault → L.write_faults link.new ≡ L.write_faults link.old }
     ensures left { L.left link.new ≡ L.left link.old }
@@ -158,7 +154,7 @@ fn answer_bytes<L: Link>(
 {
     for b in bytes {
         if *b == b'\n' {
-            match answer_line(alloc, store, session, link, line.text()) {
+            match answer_line(alloc, turns, session, link, line.text()) {
                 Ok(false) => line.clear(),
                 Ok(true) => return Some(Ended::Quit),
                 Err(Failed) => return Some(Ended::WriteFault),
@@ -189,22 +185,27 @@ fn read_piece<L: Link>(
     link.read(&mut piece[..most])
 }
 
-// The reads of a session that begins on the newest version of its store, and what is answered.
-fn converse<L: Link>(
+// The reads of a session that holds the version found last, and what is answered. Others may have
+// gone on with the history before that version.
+fn answer_reads<T: Turns, L: Link>(
     alloc: Global,
-    store: &mut Store,
+    turns: &mut T,
     session: &mut Session,
     link: &mut L,
     line: &mut LineBuffer,
     budget: u64,
 ) -> Ended
-    requires held { session.old.journal ≡ store.old.journal }
+    requires ready { T.Ready turns.old }
+    requires held { session.old.journal ≡ T.seen turns.old }
     requires fresh { session.old.pending ≡ None }
-    requires author { session.old.author ≡ AUTHOR }
+    requires author { session.old.author ≡ T.number turns.old }
     requires empty { line.old ≡ [] }
-    requires legal { IsLegal store.old.journal.limits store.old.journal.entries }
-    ensures session { Talk (record { setting = setting store.old.journal; author = AUTHOR; start = length store.old.journal.entries }) budget (record { entries = store.old.journal.entries; wire = wire_view L.left L.written L.write_order L.read_faults L.write_faults link.old }) (record { entries = store.new.journal.entries; wire = wire_view L.left L.written L.write_order L.read_faults L.write_faults link.new }) result }
-    ensures stays { setting store.new.journal ≡ setting store.old.journal }
+    requires legal { IsLegal (T.seen turns.old).limits (T.seen turns.old).entries }
+    ensures session { (own : List ℕ) × (T.Finds turns.old turns.new own) × ((first : History) → OthersAdded (T.number turns.old ∷ []) first (T.seen turns.old) → Visit (record { setting = setting first; author = T.number turns.old; start = length first.entries }) (length (T.seen turns.old).entries) own budget (record { entries = first.entries; wire = wire_view L.left L.written L.write_order L.read_faults L.write_faults link.old }) (record { entries = (T.seen turns.new).entries; wire = wire_view L.left L.written L.write_order L.read_faults L.write_faults link.new }) result) }
+    ensures ending { result ≢ Memory }
+    ensures stays { setting (T.seen turns.new) ≡ setting (T.seen turns.old) }
+    ensures ready { T.Ready turns.new }
+    ensures author { T.number turns.new ≡ T.number turns.old }
     ensures names { L.names link.new ≡ L.names link.old }
     ensures read_fault { result ≡ ReadFault → Rose (L.read_faults link.old) (L.read_faults link.new) }
     ensures reads_passed { result ≢ ReadFault → L.read_faults link.new ≡ L.read_faults link.old }
@@ -225,7 +226,7 @@ fn converse<L: Link>(
                 left -= count as u64;
                 if let Some(ended) = answer_bytes(
                     alloc,
-                    store,
+                    turns,
                     session,
                     link,
                     line,
@@ -243,13 +244,38 @@ fn converse<L: Link>(
     }
 }
 
-/// Answers the lines of a link, in order, as the one author of the store, before the next read. It
-/// hands each reply to the link as `put_answer` does. It never
-/// reads more than `budget` bytes. Its line buffer, of 131,072 bytes, and its first version are taken
-/// before the first read. An edit whose reply could not be written stays made. Where a link's bytes and the order of
-/// its calls aren't known, as with standard input, no clause says anything of them.
+/// Answers the lines of a link, in order and before the next read, in turns that are made so. It hands
+/// each reply to the link as `put_answer` does, and never reads more than `budget` bytes. Its line
+/// buffer, of 131,072 bytes, and its first version are taken before the first read. An edit whose
+/// reply could not be written stays made. Where a link's bytes and the order of its calls aren't
+/// known, as with standard input, no clause says anything of them.
+pub fn converse<T: Turns, L: Link>(alloc: Global, turns: &mut T, link: &mut L, budget: u64) -> Ended
+    requires ready { T.Ready turns.old }
+    ensures session { Conversed (T.number turns.old) (T.seen turns.old, T.seen turns.new) (T.Finds turns.old turns.new) budget (wire_view L.left L.written L.write_order L.read_faults L.write_faults link.old, wire_view L.left L.written L.write_order L.read_faults L.write_faults link.new) result }
+    ensures stays { setting (T.seen turns.new) ≡ setting (T.seen turns.old) }
+    ensures ready { T.Ready turns.new }
+    ensures author { T.number turns.new ≡ T.number turns.old }
+    ensures names { L.names link.new ≡ L.names link.old }
+    ensures read_fault { result ≡ ReadFault → Rose (L.read_faults link.old) (L.read_faults link.new) }
+    ensures reads_passed { result ≢ ReadFault → L.read_faults link.new ≡ L.read_faults link.old }
+    ensures write_fault { result ≡ WriteFault → Rose (L.write_faults link.old) (L.write_faults link.new) }
+    ensures writes_passed { result ≢ WriteFault → L.write_faults link.new ≡ L.write_faults link.old }
+{
+    let Ok(mut line) = LineBuffer::new(alloc) else {
+        return Ended::Memory;
+    };
+    let Ok(version) = turns.hold() else {
+        return Ended::Memory;
+    };
+    let mut session = Session::start(turns.author(), version);
+    // Only the proof reads it: a version's journal is legal.
+    let _front = session.front();
+    answer_reads(alloc, turns, &mut session, link, &mut line, budget)
+}
+
+/// Answers the lines of a link, as `converse` does, as the one author of the store.
 pub fn talk<L: Link>(alloc: Global, store: &mut Store, link: &mut L, budget: u64) -> Ended
-    ensures session { Talk (record { setting = setting store.old.journal; author = AUTHOR; start = length store.old.journal.entries }) budget (record { entries = store.old.journal.entries; wire = wire_view L.left L.written L.write_order L.read_faults L.write_faults link.old }) (record { entries = store.new.journal.entries; wire = wire_view L.left L.written L.write_order L.read_faults L.write_faults link.new }) result }
+    ensures session { Talk (record { setting = setting store.old.journal; author = 1; start = length store.old.journal.entries }) budget (record { entries = store.old.journal.entries; wire = wire_view L.left L.written L.write_order L.read_faults L.write_faults link.old }) (record { entries = store.new.journal.entries; wire = wire_view L.left L.written L.write_order L.read_faults L.write_faults link.new }) result }
     ensures stays { setting store.new.journal ≡ setting store.old.journal }
     ensures names { L.names link.new ≡ L.names link.old }
     ensures read_fault { result ≡ ReadFault → Rose (L.read_faults link.old) (L.read_faults link.new) }
@@ -257,14 +283,8 @@ pub fn talk<L: Link>(alloc: Global, store: &mut Store, link: &mut L, budget: u64
     ensures write_fault { result ≡ WriteFault → Rose (L.write_faults link.old) (L.write_faults link.new) }
     ensures writes_passed { result ≢ WriteFault → L.write_faults link.new ≡ L.write_faults link.old }
 {
+    let ended = converse(alloc, store, link, budget);
     // Only the proof reads it: a store's journal is legal.
-    let _start = store.front();
-    let Ok(mut line) = LineBuffer::new(alloc) else {
-        return Ended::Memory;
-    };
-    let Ok(version) = store.newest() else {
-        return Ended::Memory;
-    };
-    let mut session = Session::start(AUTHOR, version);
-    converse(alloc, store, &mut session, link, &mut line, budget)
+    let _front = store.front();
+    ended
 }

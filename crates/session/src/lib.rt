@@ -8,8 +8,10 @@ mod law;
 mod line;
 mod queries;
 mod session;
+mod turns;
 
 pub use answer::put_answer;
-pub use conversation::{Ended, talk};
+pub use conversation::{Ended, converse, talk};
 pub use law::transcript_law;
 pub use session::{Session, Work, WorkDone, begin_turn, end_turn, needs_turn, own_step, turn_step};
+pub use turns::Turns;

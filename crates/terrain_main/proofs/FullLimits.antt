@@ -1,16 +1,15 @@
 -- A session that never began, out of memory.
-use Rattle.std.proofs.Common.{arith, ◌^◌, ◌<◌, ℕ, List, [], length, refl}
-use Rattle.std.proofs.lemmas.List.Elements.{All-nil}
+use Rattle.std.proofs.Common.{arith, ◌^◌, [], ◌∷◌, refl}
 use Rattle.std.specs.Prelude.{codes}
 use Rattle.ground_num.specs.Head.{plain_head}
 use Rattle.ground_io.specs.Wires.{WireView}
+use Rattle.turn_lock.proofs.Prefix.{prefix_refl}
 use Rattle.turn_lock.specs.Setting.{Setting}
+use Rattle.turn_lock.specs.declared.journal.Journal.{Journal}
 use Rattle.ground_model.specs.declared.limits.Limits.{Limits}
-use Rattle.session.specs.Talk.{line_limit}
+use Rattle.session.specs.Alone.{added_none}
 use Rattle.session.specs.declared.conversation.Ended.TheVariants as ended
-use Rattle.session.proofs.Consumed.{consumes_none}
-use Rattle.session.proofs.Sessions.{talking_starts}
-use Rattle.session.proofs.Ends.{ends_memory}
+use Rattle.session.proofs.Alone.{talk_of}
 use Rattle.terrain_main.specs.declared.status.Status.TheVariants as statuses
 use Rattle.terrain_main.specs.Commands.{RunsTalk}
 
@@ -31,6 +30,7 @@ full = record {
 pub without_memory : (wire : WireView) → RunsTalk wire wire statuses.Memory
 unfolding full
 without_memory wire =
+    let empty : Journal = record { head = plain_head (codes "ground"); limits = full; entries = [] } in
     let set : Setting = record { head = plain_head (codes "ground"); limits = full } in
     record {
       set = set;
@@ -38,5 +38,11 @@ without_memory wire =
       end = ended.Memory;
       entries = [];
       is = refl;
-      session = ends_memory set 1 (2 ^ 40) _ _ [] (consumes_none wire.left) (omega arith) (All-nil (λ (line : List ℕ). length line < line_limit)) (talking_starts _ (λ k x e. cc)) refl;
+      session = talk_of 1 empty empty (2 ^ 40) wire wire (λ k x e. cc) ended.Memory (record {
+        fronts = [];
+        few = omega arith;
+        finds = added_none (1 ∷ []) empty;
+        added = record { prefix = prefix_refl empty; own = λ a is. refl };
+        same = refl;
+      });
     }

@@ -1,9 +1,6 @@
-use Rattle.std.proofs.Common.{◌≡◌, ap}
 use Rattle.std.proofs.lemmas.Result.{err_from_is_err_and}
-use Rattle.ground_num.specs.declared.head.Origin.{Origin}
 use Rattle.ground_io.proofs.Ordering.{sends_none}
 use Rattle.ground_io.proofs.Texts.{appends_none, appends_part, sends_part, written_last, sent_last}
-use Rattle.line_protocol.specs.Replies.{reply_text}
 use Rattle.session.specs.Texts.{held_text}
 use Rattle.session.proofs.answer.put_answer.Goals as goal
 

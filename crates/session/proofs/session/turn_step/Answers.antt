@@ -1,7 +1,7 @@
 use Rattle.std.proofs.Common.{◌≡◌, refl, subst, sym}
 use Rattle.store.specs.Versions.{StoreView}
 use Rattle.session.specs.Sessions.{TurnStep, Begins, Ends}
-use Rattle.session.proofs.Turns.{turn-hold, turn-commit, turn-apply}
+use Rattle.session.proofs.Stepped.{turn-hold, turn-commit, turn-apply}
 use Rattle.session.proofs.session.turn_step.Goals.{in-Hold, in-Commit, in-Apply}
 use Rattle.session.proofs.session.turn_step.Goals as goal
 

@@ -1,16 +1,15 @@
 -- What a turn did, as a step of a session.
-use Rattle.std.proofs.Common.{◌≡◌, ℕ, ◌+◌, ◌++◌, [], ◌∷◌, length, length-append, Bool, true, false, Option, None, Some, is_some, Result, Ok, Err, IfOk, inl, inr, refl, sym, ap, subst, ◌∙◌}
+use Rattle.std.proofs.Common.{◌≡◌, ℕ, ◌+◌, ◌++◌, [], ◌∷◌, length, length-append, true, false, Option, None, Some, is_some, Result, Ok, Err, IfOk, inl, inr, refl, sym, ap, subst, ◌∙◌}
 use Rattle.std.specs.declared.alloc.AllocError.{AllocError}
-use Rattle.std.specs.Prelude.{List, if◌then◌else◌}
+use Rattle.std.specs.Prelude.{List}
 use Rattle.ground_model.specs.declared.edit.Edit.{Edit}
-use Rattle.ground_model.specs.declared.entry.Entry.{Entry}
 use Rattle.ground_model.specs.declared.line.LineId.{LineId}
 use Rattle.ground_model.specs.declared.mark.Mark.{Mark}
 use Rattle.ground_model.specs.declared.refusal.Refusal.{Refusal}
 use Rattle.ground_model.specs.Answer as answers
 use Rattle.ground_model.specs.Answer.{Pending, next_entry}
 use Rattle.line_protocol.specs.declared.reply.Reply.{Reply}
-use Rattle.line_protocol.specs.declared.reply.Reply.TheVariants.{Held, Planned, Done, Conflict, Refused, Level, Contour, Volume, Stat, Export, Bye, Syntax, Range, NoPlan, Memory}
+use Rattle.line_protocol.specs.declared.reply.Reply.TheVariants.{Held, Done, Conflict, Refused, Memory}
 use Rattle.line_protocol.specs.declared.request.Request.{Request}
 use Rattle.line_protocol.specs.declared.request.Request.TheVariants as asks
 use Rattle.turn_lock.specs.Setting.{setting}
@@ -22,10 +21,10 @@ use Rattle.store.specs.declared.answers.Applied.TheVariants as applied
 use Rattle.store.specs.declared.answers.Commit.{Commit}
 use Rattle.store.specs.declared.answers.Commit.TheVariants as commits
 use Rattle.session.specs.Table.{to_edit, to_commit}
-use Rattle.session.specs.Told.{done_front, edit_made}
-use Rattle.session.specs.Transcript.{IsAnswer}
-use Rattle.session.specs.Talking.{Serves, entries_after}
-use Rattle.session.specs.Sessions.{SessionView, OwnStep, TurnStep, Begins, Ends, takes_turn, held_after, position}
+use Rattle.session.specs.Told.{edit_made, entries_after}
+use Rattle.session.specs.Turns.{TakesTurn}
+use Rattle.session.specs.Talking.{Serves, position}
+use Rattle.session.specs.Sessions.{SessionView, OwnStep, TurnStep, Begins, Ends, takes_turn}
 use Rattle.session.specs.declared.session.Work.TheVariants as works
 use Rattle.session.specs.declared.session.WorkDone.TheVariants as dones
 
@@ -158,62 +157,33 @@ turn-apply author old mid new before after request edit (applied.Memory back) re
     (moved (before, before) old old new (asks.Apply edit) request Memory reply (ends.1 ∙ begins.1) begins.0 ends.0
     (record { is = inr (refl, refl); entries = refl; stays = refl; holds = refl; plans = refl; author = refl }))
 
--- ---- a step of the one session of a store, which holds its newest version
+-- ---- a step, as what a request did
 
--- a request that takes no turn makes no edit
-unmade : (pending : Option Pending) (request : Request) → takes_turn pending request ≡ false → edit_made pending (Some request) ≡ None
-unmade pending asks.Sync e = cc
-unmade pending (asks.Apply edit) e = cc
-unmade None asks.Commit e = refl
-unmade (Some plan) asks.Commit e = cc
-unmade pending (asks.Plan edit) e = refl
-unmade pending (asks.Level p) e = refl
-unmade pending (asks.Contour z) e = refl
-unmade pending (asks.Volume z) e = refl
-unmade pending asks.Stat e = refl
-unmade pending asks.Export e = refl
-unmade pending asks.Quit e = refl
-
-without_edit : (author : ℕ) (h : List Entry) (reply : Reply) → entries_after author h None reply ≡ h
-without_edit author h reply = by_done (is_some (done_front reply))
-  where
-    by_done : (t : Bool) → (if t then h else h) ≡ h
-    by_done true = refl
-    by_done false = refl
-
-pub serves-own : (old new : SessionView) (j : Journal) (request : Request) (reply : Reply) → old.journal ≡ j → takes_turn old.pending request ≡ false → OwnStep old new request reply → Serves old.author (position j old, position j new) request reply
-serves-own old new j request reply held own step = record {
-  is = subst (λ (k : Journal). IsAnswer (setting k) k.entries old.pending request reply) held step.is;
-  entries = sym (ap (λ e. entries_after old.author j.entries e reply) (unmade old.pending request own) ∙ without_edit old.author j.entries reply);
+pub serves-own : (author : ℕ) (seen : Journal) (old new : SessionView) (request : Request) (reply : Reply) → takes_turn old.pending request ≡ false → OwnStep old new request reply → Serves author (position seen old, position seen new) request reply []
+serves-own author seen old new request reply quiet step = inl (record {
+  is = step.is;
+  quiet = inl quiet;
   pending = step.plans;
-  stays = refl;
-}
+  seen = refl;
+  held = step.holds;
+  own = refl;
+})
 
-pub serves-turn : (old new : SessionView) (before after : Journal) (request : Request) (reply : Reply) → TurnStep (before, after) old new request reply → Serves old.author (position before old, position after new) request reply
-serves-turn old new before after request reply step = record { is = step.is; entries = step.entries; pending = step.plans; stays = step.stays }
-
--- the newest version is held afterwards
-pub holds-newest : (old new : SessionView) (before after : Journal) (request : Request) (reply : Reply) → old.journal ≡ before → TurnStep (before, after) old new request reply → new.journal ≡ after
-holds-newest old new before after request reply held step = step.holds ∙ newest reply refl
-  where
-    same : reply ≡ Memory → old.journal ≡ after
-    same is =
-        let entries : after.entries ≡ before.entries = step.entries ∙ ap (entries_after old.author before.entries (edit_made old.pending (Some request))) is in
-        held ∙ sym (λ i. record { head = (step.stays i).head; limits = (step.stays i).limits; entries = entries i })
-
-    newest : (r : Reply) → reply ≡ r → held_after r old.journal after ≡ after
-    newest Memory is = same is
-    newest (Held f) is = refl
-    newest (Planned f size) is = refl
-    newest (Done f line) is = refl
-    newest (Conflict f mark) is = refl
-    newest (Refused f cause) is = refl
-    newest (Level f z) is = refl
-    newest (Contour f cuts) is = refl
-    newest (Volume f v) is = refl
-    newest (Stat f points lines) is = refl
-    newest (Export f bytes) is = refl
-    newest Bye is = refl
-    newest (Syntax offset) is = refl
-    newest Range is = refl
-    newest NoPlan is = refl
+pub serves-turn : (author : ℕ) (seen : Journal × Journal) (old new : SessionView) (request : Request) (reply : Reply) (Finds : List ℕ → Type 0) → old.author ≡ author → takes_turn old.pending request ≡ true → TakesTurn author seen old new request reply Finds
+    → (own : List ℕ) × Finds own × Serves author (position seen.0 old, position seen.1 new) request reply own
+serves-turn author seen old new request reply Finds mine turn t = (
+  length t.found.entries ∷ [],
+  t.finds,
+  inr (record {
+    found = t.found;
+    added = t.added;
+    is = t.step.is;
+    turn = turn;
+    pending = t.step.plans;
+    entries = t.step.entries ∙ ap (λ a. entries_after a t.found.entries (edit_made old.pending (Some request)) reply) mine;
+    stays = t.step.stays;
+    legal = t.legal;
+    held = t.step.holds;
+    own = refl;
+  }),
+)
