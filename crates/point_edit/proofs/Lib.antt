@@ -1,10 +1,12 @@
 pub mod Added
 pub mod Blocked
+pub mod Chords
 pub mod Closed
 pub mod Covers
 pub mod Degrees
 pub mod FlipCorners
 pub mod Forms
+pub mod Halves
 pub mod LastStars
 pub mod Looks
 pub mod Made
@@ -13,6 +15,7 @@ pub mod OnEdge
 pub mod PieceWalks
 pub mod Progress
 pub mod PutIn
+pub mod Removables
 pub mod Removed
 pub mod RemovedContents
 pub mod Repeats

@@ -1,12 +1,15 @@
 -- Meshes of contents.
-use Rattle.std.specs.Prelude.{ℤ, ◌≡◌, false, List}
+use Rattle.std.specs.Prelude.{ℕ, ℤ, ◌≡◌, false, List}
 use Rattle.std.specs.List.{All}
 use Rattle.ground_model.specs.declared.edit.Edit.TheVariants.{AddPoint, RemovePoint}
+use Rattle.ground_model.specs.declared.limits.Limits.{Limits}
 use Rattle.ground_model.specs.declared.facet.Facet.{Facet}
 use Rattle.ground_model.specs.Content.{Content, after, points_of, lines_of}
 use Rattle.ground_model.specs.Line.{is_point, has_place}
 use Rattle.ground_model.specs.Mark.{is_among}
 use Rattle.ground_model.specs.Place.{Coords, IsPlace}
+use Rattle.ground_model.specs.Planar.{IsPlanar}
+use Rattle.ground_model.specs.Refusal.{IsLawful}
 use Rattle.ground_model.specs.Tri.{tri}
 use Rattle.predicates.specs.Net.{Net, facets_of, net_over, count_between}
 use Rattle.predicates.specs.Sheet.{IsSheet, IsLocallyDelaunay}
@@ -16,7 +19,7 @@ use Rattle.mesh.specs.Sheets.{IsSheetMesh, net_in, triangles_of}
 use Rattle.locate.specs.declared.spot.Spot.{Spot}
 use Rattle.locate.specs.Spots.{IsSpot}
 use Rattle.point_edit.specs.Insertions.{IsPutIn}
-use Rattle.point_edit.specs.Removals.{IsTakenOut}
+use Rattle.point_edit.specs.Removals.{IsRemovable, IsTakenOut}
 
 -- the net has the points of the content, and its counts
 pub record IsOver (c : Content) (net : Net) : Type 0 where
@@ -48,3 +51,7 @@ AddedLaw = (c : Content) (p : Coords) (z : ℤ) (old new : List State) (spot : S
 abbrev pub RemovedLaw : Type 0
 RemovedLaw = (c : Content) (p : Coords) (old new : List State) → IsJoined c → All (λ line. has_place p line ≡ false) (lines_of c) → IsMeshOf c old
     → IsSheetMesh new → IsLocallyDelaunay (net_in new) → IsTakenOut (net_in old) (net_in new) p → IsMeshOf (after c (RemovePoint p)) new
+
+-- a point that may be taken out of a planar content can be taken out of its mesh: of the pieces at it there are none, or two that go straight on with one count
+abbrev pub RemovableLaw : Type 0
+RemovableLaw = (c : Content) (entries : ℕ) (limits : Limits) (p : Coords) (slots : List State) → IsPlanar c → IsLawful c entries limits (RemovePoint p) → IsMeshOf c slots → IsRemovable (net_in slots) p

@@ -1,6 +1,6 @@
 //! Laws of the meshes that points are put into and taken out of, and of the stars of points that are taken out.
 
-ghost use Rattle.point_edit.specs.Contents.{AddedLaw, ContentLaw, RemovedLaw};
+ghost use Rattle.point_edit.specs.Contents.{AddedLaw, ContentLaw, RemovableLaw, RemovedLaw};
 ghost use Rattle.point_edit.specs.Stars.{ProgressLaw, StraightLaw};
 
 /// The triangles of a mesh over a content's points and counts are a sheet of it, and its facets are the
@@ -19,6 +19,12 @@ pub fn added_law()
 /// removed: two pieces at it are parts of one that runs over it, and no other piece does.
 pub fn removed_law()
     ensures { RemovedLaw }
+{}
+
+/// A point that may be taken out of a planar content can be taken out of its mesh: pieces at it are the two parts
+/// of one that runs over it, since of two such pieces one crosses the other, or both are one.
+pub fn removable_law()
+    ensures { RemovableLaw }
 {}
 
 /// Flips bring the star of a point that has no counted edge down to three triangles, or to four with the point

@@ -10,7 +10,7 @@ mod remove;
 mod star;
 
 pub use insert::insert_point;
-pub use laws::{added_law, content_law, progress_law, removed_law, straight_law};
+pub use laws::{added_law, content_law, progress_law, removable_law, removed_law, straight_law};
 pub use pieces::is_removable;
 pub use point::number_of;
 pub use remove::remove_point;
