@@ -9,6 +9,8 @@ mod looks;
 #[cfg(test)]
 mod nets;
 #[cfg(test)]
+mod pairs;
+#[cfg(test)]
 mod random_steps;
 #[cfg(test)]
 mod removed;
