@@ -1,0 +1,5 @@
+mod Putting
+mod Reported
+mod Reached
+mod Places
+mod Corners
