@@ -1,0 +1,3 @@
+mod Turns
+mod Sessions
+mod Wires
