@@ -1,0 +1,5 @@
+pub mod Gathered
+pub mod Gathers
+pub mod Numbers
+pub mod Sought
+pub mod Taken

@@ -1,0 +1,4 @@
+pub mod Counts
+pub mod Edges
+pub mod Ends
+pub mod Removals
