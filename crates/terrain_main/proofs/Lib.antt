@@ -2,3 +2,4 @@ pub mod FullLimits
 pub mod Codes
 pub mod Wholes
 pub mod Trials
+pub mod Wordings

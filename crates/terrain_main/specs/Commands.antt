@@ -1,5 +1,5 @@
 -- Which words are a command, and how the program ends.
-use Rattle.std.specs.Prelude.{◌≡◌, ℕ, ◌-◌, ◌^◌, ◌&&◌, nat_le, if◌then◌else◌, List, [], ◌∷◌, ◌++◌, codes, string_bytes, bytes_eq, Option, None, Some, Result}
+use Rattle.std.specs.Prelude.{◌≡◌, ℕ, ℤ, Bool, true, false, option_map, ◌-◌, ◌^◌, ◌&&◌, nat_le, if◌then◌else◌, List, [], ◌∷◌, ◌++◌, codes, string_bytes, bytes_eq, Option, None, Some, Result}
 use Rattle.std.specs.Fmt.{decimal}
 use Rattle.std.specs.Str.Parse.{digits_value}
 use Rattle.std.specs.Io.KnownBytes.{Appends}
@@ -15,6 +15,9 @@ use Rattle.turn_lock.specs.declared.journal.Journal.{Journal}
 use Rattle.session.specs.Talk.{Talk}
 use Rattle.session.specs.declared.conversation.Ended.{Ended}
 use Rattle.session.specs.declared.conversation.Ended.TheVariants.{Quit, End, Cut, LongLine, Spent, ReadFault, WriteFault, Memory}
+use Rattle.landxml_surface.specs.declared.origin.OriginRule.{OriginRule}
+use Rattle.landxml_surface.specs.declared.origin.OriginRule.TheVariants.{Given, Nearest}
+use Rattle.line_protocol.specs.Grammar.{number_of}
 use Rattle.trial.specs.declared.report.Report.{Report}
 use Rattle.trial.specs.Trials.{IsReport}
 use Rattle.trial.specs.Texts.{report_text}
@@ -38,13 +41,107 @@ trial_by (Some seed) (Some count) = Some (commands.Trial seed count)
 abbrev pub trial_of : List ℕ → List ℕ → Option Command
 trial_of seed count = trial_by (whole_of (2 ^ 64 - 1) seed) (whole_of 100000 count)
 
--- the command that the words are: `talk`, or `trial SEED COUNT`
+-- a word of a command by its letters
+abbrev pub is_word : List ℕ → String Global → Bool
+is_word letters word = bytes_eq (string_bytes word) letters
+
+-- an origin of two numbers of the protocol
+abbrev pub given_by : Option ℤ → Option ℤ → Option OriginRule
+given_by None e = None
+given_by (Some n) None = None
+given_by (Some n) (Some e) = Some (Given (record { n = record { 0 = n }; e = record { 0 = e } }))
+
+abbrev pub origin_of : String Global → String Global → Option OriginRule
+origin_of n e = given_by (number_of (string_bytes n)) (number_of (string_bytes e))
+
+-- an origin after its word
+abbrev pub origin_after : String Global → String Global → String Global → Option OriginRule
+origin_after key n e = if is_word (codes "--origin") key then origin_of n e else None
+
+-- which origin the options ask for, where a surface isn't asked for
+abbrev pub rule_of : List (String Global) → Option OriginRule
+rule_of [] = Some Nearest
+rule_of (key ∷ []) = None
+rule_of (key ∷ n ∷ []) = None
+rule_of (key ∷ n ∷ e ∷ []) = origin_after key n e
+rule_of (key ∷ n ∷ e ∷ more ∷ words) = None
+
+-- a surface and an origin, or an origin and a surface
+abbrev pub rule_of_both : String Global → String Global → String Global → String Global → String Global → Option OriginRule
+rule_of_both a b c d e = if is_word (codes "--surface") a then origin_after c d e else (if is_word (codes "--surface") d then origin_after a b c else None)
+
+-- which origin the options ask for, where a surface may be asked for
+abbrev pub rule_beside : List (String Global) → Option OriginRule
+rule_beside [] = Some Nearest
+rule_beside (key ∷ []) = None
+rule_beside (key ∷ name ∷ []) = if is_word (codes "--surface") key then Some Nearest else None
+rule_beside (key ∷ n ∷ e ∷ []) = origin_after key n e
+rule_beside (a ∷ b ∷ c ∷ d ∷ []) = None
+rule_beside (a ∷ b ∷ c ∷ d ∷ e ∷ []) = rule_of_both a b c d e
+rule_beside (a ∷ b ∷ c ∷ d ∷ e ∷ f ∷ words) = None
+
+-- the name that such options ask for
+abbrev pub name_in : List (String Global) → Option (List ℕ)
+name_in [] = None
+name_in (key ∷ []) = None
+name_in (key ∷ name ∷ []) = Some (string_bytes name)
+name_in (a ∷ b ∷ c ∷ []) = None
+name_in (a ∷ b ∷ c ∷ d ∷ []) = None
+name_in (a ∷ b ∷ c ∷ d ∷ e ∷ words) = Some (string_bytes (if is_word (codes "--surface") a then b else e))
+
+-- the name that the words of `rewrite` ask for
+abbrev pub name_of : List (String Global) → Option (List ℕ)
+name_of [] = None
+name_of (word ∷ options) = name_in options
+
+abbrev pub check_by : Option OriginRule → Option Command
+check_by rule = option_map commands.Check rule
+
+abbrev pub rewrite_by : Option OriginRule → Option Command
+rewrite_by rule = option_map commands.Rewrite rule
+
+-- a command of one word
+abbrev pub single_of : String Global → Option Command
+single_of word = if is_word (codes "talk") word then Some commands.Talk else (if is_word (codes "help") word then Some commands.Help else None)
+
+-- a command of three words that isn't on documents
+abbrev pub trial_in : List (String Global) → Option Command
+trial_in [] = None
+trial_in (word ∷ []) = single_of word
+trial_in (word ∷ seed ∷ []) = None
+trial_in (word ∷ seed ∷ count ∷ []) = if is_word (codes "trial") word then trial_of (string_bytes seed) (string_bytes count) else None
+trial_in (word ∷ seed ∷ count ∷ more ∷ words) = None
+
+-- the command that the words are
 abbrev pub command_of : List (String Global) → Option Command
 command_of [] = None
-command_of (word ∷ []) = if bytes_eq (string_bytes word) (codes "talk") then Some commands.Talk else None
-command_of (word ∷ seed ∷ []) = None
-command_of (word ∷ seed ∷ count ∷ []) = if bytes_eq (string_bytes word) (codes "trial") then trial_of (string_bytes seed) (string_bytes count) else None
-command_of (word ∷ seed ∷ count ∷ more ∷ words) = None
+command_of (word ∷ options) =
+    if is_word (codes "check") word then check_by (rule_of options)
+    else (if is_word (codes "rewrite") word then rewrite_by (rule_beside options)
+    else trial_in (word ∷ options))
+
+-- whether the command reads
+abbrev pub reads_input : Option Command → Bool
+reads_input None = false
+reads_input (Some (commands.Check rule)) = true
+reads_input (Some (commands.Rewrite rule)) = true
+reads_input (Some commands.Talk) = true
+reads_input (Some (commands.Trial seed count)) = false
+reads_input (Some commands.Help) = false
+
+-- whether a fault line was written
+abbrev pub puts_line : Status → Bool
+puts_line statuses.Usage = true
+puts_line statuses.BadDocument = true
+puts_line statuses.TooLarge = true
+puts_line statuses.BadSurface = true
+puts_line statuses.Ok = false
+puts_line statuses.ReadFault = false
+puts_line statuses.WriteFault = false
+puts_line statuses.Memory = false
+puts_line statuses.Spent = false
+puts_line statuses.LongLine = false
+puts_line statuses.Cut = false
 
 abbrev pub status_of : Ended → Status
 status_of Quit = statuses.Ok
@@ -60,9 +157,12 @@ status_of Memory = statuses.Memory
 abbrev pub code_of : Status → ℕ
 code_of statuses.Ok = 0
 code_of statuses.Usage = 2
+code_of statuses.BadDocument = 3
 code_of statuses.ReadFault = 4
 code_of statuses.WriteFault = 5
 code_of statuses.Memory = 6
+code_of statuses.TooLarge = 7
+code_of statuses.BadSurface = 8
 code_of statuses.Spent = 10
 code_of statuses.LongLine = 11
 code_of statuses.Cut = 12
@@ -106,6 +206,9 @@ RunsTrial seed count before after statuses.Ok = (report : Report) × IsReport se
 RunsTrial seed count before after statuses.WriteFault = (report : Report) × IsReport seed count report × AppendsSome before.written after.written (report_text report) × Rose before.write_faults after.write_faults
 RunsTrial seed count before after statuses.Memory = (after.written ≡ before.written) × (after.write_faults ≡ before.write_faults)
 RunsTrial seed count before after statuses.Usage = ⊥
+RunsTrial seed count before after statuses.BadDocument = ⊥
+RunsTrial seed count before after statuses.TooLarge = ⊥
+RunsTrial seed count before after statuses.BadSurface = ⊥
 RunsTrial seed count before after statuses.ReadFault = ⊥
 RunsTrial seed count before after statuses.Spent = ⊥
 RunsTrial seed count before after statuses.LongLine = ⊥

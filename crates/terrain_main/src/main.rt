@@ -3,6 +3,7 @@
 #![tactic(auto)]
 
 mod command;
+mod documents;
 #[cfg(test)]
 mod end_tests;
 #[cfg(test)]

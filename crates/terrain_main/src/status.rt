@@ -2,19 +2,29 @@
 
 ghost use Rattle.std.specs.Prelude.{◌≡◌};
 ghost use Rattle.terrain_main.specs.Commands.{code_of, status_of};
+ghost use Rattle.terrain_main.specs.Documents.{status_by};
 
+use document_commands::Ending;
 use session::Ended;
 
 /// A name for each exit status.
 #[derive(Clone, Copy, Debug, PartialEq, Eq)]
 pub enum Status {
-    /// All output was written. A session ended by `quit` or by the end of its input.
+    /// All output was written. A session ended by `quit` or by the end of its input, and a document was
+    /// read to its end.
     Ok,
     /// The words are no command. The fault line was written, or a beginning of it.
     Usage,
+    /// The document has a fault, or the surface asked for isn't there. The fault line was written, or a
+    /// beginning of it.
+    BadDocument,
     ReadFault,
     WriteFault,
     Memory,
+    /// The document has more bytes than it may have. The fault line was written, or a beginning of it.
+    TooLarge,
+    /// A surface of the document can't be loaded. The fault line was written, or a beginning of it.
+    BadSurface,
     /// The session read all the bytes that one session may read.
     Spent,
     LongLine,
@@ -29,9 +39,12 @@ impl Status {
         match self {
             Status::Ok => 0,
             Status::Usage => 2,
+            Status::BadDocument => 3,
             Status::ReadFault => 4,
             Status::WriteFault => 5,
             Status::Memory => 6,
+            Status::TooLarge => 7,
+            Status::BadSurface => 8,
             Status::Spent => 10,
             Status::LongLine => 11,
             Status::Cut => 12,
@@ -49,6 +62,20 @@ impl Status {
             Ended::ReadFault => Status::ReadFault,
             Ended::WriteFault => Status::WriteFault,
             Ended::Memory => Status::Memory,
+        }
+    }
+
+    pub(crate) fn of_document(end: Ending) -> Status
+        ensures { result ≡ status_by end }
+    {
+        match end {
+            Ending::Done => Status::Ok,
+            Ending::BadDocument => Status::BadDocument,
+            Ending::ReadFault => Status::ReadFault,
+            Ending::WriteFault => Status::WriteFault,
+            Ending::Memory => Status::Memory,
+            Ending::TooLarge => Status::TooLarge,
+            Ending::BadSurface => Status::BadSurface,
         }
     }
 }

@@ -1,11 +1,17 @@
 //! What the words of the command line ask for.
 
-ghost use Rattle.std.specs.Prelude.{◌≡◌, ◌≤◌, ◌&&◌, ℕ, Some, None, nat_le, bytes_eq, if◌then◌else◌};
+ghost use Rattle.std.specs.Prelude.{◌≡◌, ◌≤◌, ◌&&◌, ℕ, Some, None, nat_le, bytes_eq, codes, if◌then◌else◌, IfSome, option_map};
 ghost use Rattle.std.specs.Fmt.{decimal};
 ghost use Rattle.terrain_main.specs.declared.words.Command.TheVariants as commands;
-ghost use Rattle.terrain_main.specs.Commands.{whole_of, trial_of, command_of as command_by};
+ghost use Rattle.terrain_main.specs.Commands.{whole_of, trial_of, is_word as is_word_of, origin_of as origin_by, origin_after as origin_after_of, rule_of as rule_by, rule_of_both as rule_of_both_of, rule_beside as rule_beside_of, name_of as name_by, trial_in, command_of as command_by};
+ghost use Rattle.landxml_surface.specs.declared.origin.OriginRule.{OriginRule as Rule};
+ghost use Rattle.landxml_surface.specs.Drafts.{IsRule};
+ghost use Rattle.landxml_surface.specs.declared.origin.OriginRule.TheVariants.{Nearest};
 
+use ground_num::Origin;
 use itoa::Buffer;
+use landxml_surface::OriginRule;
+use line_protocol::read_number;
 
 /// The most points that a trial draws.
 const MOST_DRAWN: u64 = 100_000;
@@ -13,10 +19,16 @@ const MOST_DRAWN: u64 = 100_000;
 /// A command of the program.
 #[derive(Clone, Copy, Debug, PartialEq, Eq)]
 pub(crate) enum Command {
+    /// A report on a document, with this origin.
+    Check(OriginRule),
+    /// A surface of a document written anew, with this origin.
+    Rewrite(OriginRule),
     /// A session.
     Talk,
     /// A trial of this seed and this count.
     Trial(u64, u32),
+    /// The list of commands.
+    Help,
 }
 
 // The number, where it is at most `most` and the word is its text.
@@ -51,14 +63,127 @@ fn trial_by(seed: &str, count: &str) -> Option<Command>
     Some(Command::Trial(seed, count as u32))
 }
 
+// Whether the word has these letters.
+fn is_word(letters: &str, word: &String) -> bool
+    ensures { result ≡ is_word_of letters.now word.now }
+{
+    word.as_str() == letters
+}
+
+// The origin of two numbers of the protocol.
+fn origin_of(n: &String, e: &String) -> Option<OriginRule>
+    ensures value { result ≡ origin_by n.now e.now }
+    ensures rule { IfSome result IsRule }
+{
+    let n = read_number(n.as_bytes())?;
+    let e = read_number(e.as_bytes())?;
+    Some(OriginRule::Given(Origin { n, e }))
+}
+
+// The origin of two numbers after its word.
+fn origin_after(key: &String, n: &String, e: &String) -> Option<OriginRule>
+    ensures value { result ≡ origin_after_of key.now n.now e.now }
+    ensures rule { IfSome result IsRule }
+{
+    if is_word("--origin", key) {
+        origin_of(n, e)
+    } else {
+        None
+    }
+}
+
+// Which origin the options ask for, where a surface isn't asked for.
+fn rule_of(options: &[String]) -> Option<OriginRule>
+    ensures value { result ≡ rule_by options.now }
+    ensures rule { IfSome result IsRule }
+{
+    match options {
+        [] => Some(OriginRule::Nearest),
+        [key, n, e] => origin_after(key, n, e),
+        _ => None,
+    }
+}
+
+// The origin beside a surface, or before it.
+fn rule_of_both(a: &String, b: &String, c: &String, d: &String, e: &String) -> Option<OriginRule>
+    ensures value { result ≡ rule_of_both_of a.now b.now c.now d.now e.now }
+    ensures rule { IfSome result IsRule }
+{
+    if is_word("--surface", a) {
+        origin_after(c, d, e)
+    } else if is_word("--surface", d) {
+        origin_after(a, b, c)
+    } else {
+        None
+    }
+}
+
+// The nearest origin, where the word is that of a surface.
+fn rule_at(key: &String) -> Option<OriginRule>
+    ensures value { result ≡ (if is_word_of (codes "--surface") key.now then Some Nearest else None) }
+    ensures rule { IfSome result IsRule }
+{
+    if is_word("--surface", key) {
+        Some(OriginRule::Nearest)
+    } else {
+        None
+    }
+}
+
+// Which origin the options ask for, where a surface may be asked for.
+fn rule_beside(options: &[String]) -> Option<OriginRule>
+    ensures value { result ≡ rule_beside_of options.now }
+    ensures rule { IfSome result IsRule }
+{
+    match options {
+        [] => Some(OriginRule::Nearest),
+        [key, _] => rule_at(key),
+        [key, n, e] => origin_after(key, n, e),
+        [a, b, c, d, e] => rule_of_both(a, b, c, d, e),
+        _ => None,
+    }
+}
+
+/// The name of the surface that the words of `rewrite` ask for.
+pub(crate) fn name_of(words: &[String]) -> Option<&[u8]>
+    ensures { option_map (λ name. name.now) result ≡ name_by words.now }
+{
+    match words {
+        [_, _, name] => Some(name.as_bytes()),
+        [_, key, name, _, _, last, ..] => Some(if is_word("--surface", key) {
+            name.as_bytes()
+        } else {
+            last.as_bytes()
+        }),
+        _ => None,
+    }
+}
+
+// The command of words that isn't on documents.
+fn other_command(words: &[String]) -> Option<Command>
+    ensures command { result ≡ trial_in words.now }
+    ensures few { (seed count : ℕ) → result ≡ Some (commands.Trial seed count) → count ≤ 100000 }
+{
+    match words {
+        [word] if is_word("talk", word) => Some(Command::Talk),
+        [word] if is_word("help", word) => Some(Command::Help),
+        [word, seed, count] if is_word("trial", word) => trial_by(seed.as_str(), count.as_str()),
+        _ => None,
+    }
+}
+
 /// The command that the words are.
 pub(crate) fn command_of(words: &[String]) -> Option<Command>
     ensures command { result ≡ command_by words.now }
     ensures few { (seed count : ℕ) → result ≡ Some (commands.Trial seed count) → count ≤ 100000 }
+    ensures check { (rule : Rule) → result ≡ Some (commands.Check rule) → IsRule rule }
+    ensures rewrite { (rule : Rule) → result ≡ Some (commands.Rewrite rule) → IsRule rule }
 {
     match words {
-        [word] if word.as_str() == "talk" => Some(Command::Talk),
-        [word, seed, count] if word.as_str() == "trial" => trial_by(seed.as_str(), count.as_str()),
-        _ => None,
+        [word, options @ ..] if is_word("check", word) => Some(Command::Check(rule_of(options)?)),
+        [word, options @ ..] if is_word("rewrite", word) => {
+            Some(Command::Rewrite(rule_beside(options)?))
+        }
+        _ => other_command(words),
     }
 }
