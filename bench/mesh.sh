@@ -2,8 +2,10 @@
 # Prints what it costs to insert points one by one into a mesh by `locate`, `split` and `legalize` alone, in processor
 # time and memory, beside CGAL's constrained Delaunay triangulation with exact predicates over the same points in the
 # same order, in the same run: random points along a space-filling curve and in random order with a grid of hints, an
-# exact grid along the curve, and one point a version. Wants `rt`, and for CGAL g++ and Debian's libcgal-dev, without
-# which its columns stay empty.
+# exact grid along the curve, and one point a version. Then what it costs to take points out again: every tenth of
+# random points, and every tenth row of a grid. Ours looks for each point from the last one and asks whether it can be
+# taken out; CGAL is handed its vertices. Wants `rt`, and for CGAL g++ and Debian's libcgal-dev, without which its
+# columns stay empty.
 #
 #   bench/mesh.sh [FOLDER]     FOLDER keeps the work for another run; without it a temporary one is used
 set -euo pipefail
@@ -14,7 +16,7 @@ if [ -z "$folder" ]; then
     trap 'rm -rf "$folder"' EXIT
 fi
 mkdir -p "$folder/crates/mesh_bench/src"
-for crate in ground_model page_vec tri_pages predicates cdt_law mesh locate; do
+for crate in ground_model page_vec tri_pages predicates cdt_law mesh locate point_edit; do
     mkdir -p "$folder/crates/$crate"
     for part in src specs proofs; do
         rm -rf "$folder/crates/$crate/$part"
@@ -29,7 +31,8 @@ predicates: ground_model
 cdt_law: ground_model predicates
 mesh: ground_model page_vec tri_pages smallvec predicates cdt_law
 locate: ground_model tri_pages predicates mesh
-mesh_bench: ground_model tri_pages predicates mesh locate
+point_edit: ground_model tri_pages predicates cdt_law mesh locate
+mesh_bench: ground_model tri_pages predicates mesh locate point_edit
 EOF
 
 cat > "$folder/crates/mesh_bench/src/main.rt" <<'EOF'
@@ -38,9 +41,11 @@ cat > "$folder/crates/mesh_bench/src/main.rt" <<'EOF'
 
 mod grow;
 mod points;
+mod thin;
 
-use grow::{grow, grow_by_grid, grow_shared};
-use points::{along_curve, grid_points, random_points};
+use grow::{grow, grow_by_grid, grow_shared, grown};
+use points::{along_curve, grid_points, random_points, rows_of, tenths_of};
+use thin::thin;
 use ground_model::Place;
 use std::env;
 use std::io;
@@ -53,7 +58,7 @@ fn now(rt: &HostRuntime) -> io::Result<u64> {
 
 // The points of a way of inserting them, in their order.
 fn points_of(rt: &HostRuntime, way: &str, count: u32) -> io::Result<Vec<Place>> {
-    if way == "grid" {
+    if way == "grid" || way == "rows" {
         let points = grid_points(rt.alloc(), count)?;
         return Ok(along_curve(rt.alloc(), &points)?);
     }
@@ -64,7 +69,31 @@ fn points_of(rt: &HostRuntime, way: &str, count: u32) -> io::Result<Vec<Place>> 
     Ok(along_curve(rt.alloc(), &points)?)
 }
 
+// Takes a tenth of the points out of the mesh of all.
+fn run_thin(rt: &HostRuntime, way: &str, count: u32) -> io::Result<()> {
+    let points = points_of(rt, way, count)?;
+    let chosen = if way == "rows" {
+        rows_of(rt.alloc(), &points)?
+    } else {
+        tenths_of(rt.alloc(), &points)?
+    };
+    let (spent, slots) = thinned(rt, &points, &chosen)?;
+    println!(rt; "{spent} {slots}")?;
+    Ok(())
+}
+
+fn thinned(rt: &HostRuntime, points: &[Place], chosen: &[Place]) -> io::Result<(u64, u32)> {
+    let mut mesh = grown(rt.alloc(), points)?;
+    let start = now(rt)?;
+    thin(rt.alloc(), &mut mesh, chosen)?;
+    let spent = now(rt)?.saturating_sub(start);
+    Ok((spent, mesh.pages().len()))
+}
+
 fn run(rt: &HostRuntime, way: &str, count: u32) -> io::Result<()> {
+    if way == "tenths" || way == "rows" {
+        return run_thin(rt, way, count);
+    }
     let points = points_of(rt, way, count)?;
     let start = now(rt)?;
     let slots = if way == "random" {
@@ -140,6 +169,30 @@ pub fn grid_points(alloc: Global, count: u32) -> Result<Vec<Place>, AllocError> 
     Ok(points)
 }
 
+// Every tenth of the points.
+pub fn tenths_of(alloc: Global, points: &[Place]) -> Result<Vec<Place>, AllocError> {
+    let mut found = Vec::new(alloc);
+    let mut k: u32 = 0;
+    for p in points {
+        if k % 10 == 0 {
+            found.push(*p)?;
+        }
+        k = k.wrapping_add(1);
+    }
+    Ok(found)
+}
+
+// The points of every tenth row of the grid.
+pub fn rows_of(alloc: Global, points: &[Place]) -> Result<Vec<Place>, AllocError> {
+    let mut found = Vec::new(alloc);
+    for p in points {
+        if p.n() % 10_000 == 0 {
+            found.push(*p)?;
+        }
+    }
+    Ok(found)
+}
+
 // The cell of a coordinate, of 2^20.
 fn cell(x: i32) -> u32 {
     u32::try_from(x.wrapping_add(HALF)).unwrap_or(0) >> 10
@@ -191,7 +244,7 @@ EOF
 cat > "$folder/crates/mesh_bench/src/grow.rt" <<'EOF'
 //! Meshes that grow point by point.
 
-ghost use Rattle.std.specs.Prelude.{OnOk};
+ghost use Rattle.std.specs.Prelude.{IfOk, OnOk};
 ghost use Rattle.predicates.specs.Sheet.{IsLocallyDelaunay};
 ghost use Rattle.mesh.specs.Sheets.{IsSheetMesh, net_in};
 ghost use Rattle.mesh.specs.Suspects.{KeepsSuspects};
@@ -234,13 +287,22 @@ fn insert(mesh: &mut Mesh, place: Place, hint: u32, alloc: Global) -> Result<u32
     Ok(slot)
 }
 
-// Each walk begins where the last point was inserted. How many slots the mesh has then.
-pub fn grow(alloc: Global, points: &[Place]) -> Result<u32, AllocError> {
+// Each walk begins where the last point was inserted.
+pub fn grown(alloc: Global, points: &[Place]) -> Result<Mesh, AllocError>
+    ensures sheet { IfOk result (λ mesh. IsSheetMesh mesh.slots) }
+    ensures local { IfOk result (λ mesh. IsLocallyDelaunay (net_in mesh.slots)) }
+{
     let mut mesh = Mesh::empty(alloc)?;
     let mut hint = 0;
     for p in points {
         hint = insert(&mut mesh, *p, hint, alloc)?;
     }
+    Ok(mesh)
+}
+
+// How many slots the mesh has then.
+pub fn grow(alloc: Global, points: &[Place]) -> Result<u32, AllocError> {
+    let mesh = grown(alloc, points)?;
     Ok(mesh.pages().len())
 }
 
@@ -296,6 +358,71 @@ pub fn grow_shared(alloc: Global, points: &[Place]) -> Result<u32, AllocError> {
 }
 EOF
 
+cat > "$folder/crates/mesh_bench/src/thin.rt" <<'EOF'
+//! Points are taken out of a mesh.
+
+ghost use Rattle.std.specs.Prelude.{OnOk};
+ghost use Rattle.predicates.specs.Sheet.{IsLocallyDelaunay};
+ghost use Rattle.mesh.specs.Sheets.{IsSheetMesh, net_in};
+ghost use Rattle.point_edit.specs.Removals.{IsLivePoint};
+
+use ground_model::Place;
+use locate::{Spot, locate};
+use mesh::{Mesh, PointId, Script};
+use point_edit::{is_removable, number_of, remove_point};
+use std::alloc::{AllocError, Global};
+
+// The slot that a script names last.
+fn last_of(script: &Script, slot: u32) -> u32 {
+    match script.get(script.len().wrapping_sub(1)) {
+        Some(last) => *last,
+        None => slot,
+    }
+}
+
+fn remove_at(mesh: &mut Mesh, point: PointId, slot: u32, alloc: Global) -> Result<u32, AllocError>
+    requires sheet { IsSheetMesh mesh.old.slots }
+    requires local { IsLocallyDelaunay (net_in mesh.old.slots) }
+    requires live { IsLivePoint mesh.old.slots point.0 }
+    ensures sheet { OnOk result (IsSheetMesh mesh.new.slots) }
+    ensures local { OnOk result (IsLocallyDelaunay (net_in mesh.new.slots)) }
+{
+    if !is_removable(mesh, point) {
+        return Ok(slot);
+    }
+    let script = remove_point(alloc, mesh, point)?;
+    Ok(last_of(&script, slot))
+}
+
+fn remove(mesh: &mut Mesh, place: Place, hint: u32, alloc: Global) -> Result<u32, AllocError>
+    requires sheet { IsSheetMesh mesh.old.slots }
+    requires local { IsLocallyDelaunay (net_in mesh.old.slots) }
+    ensures sheet { OnOk result (IsSheetMesh mesh.new.slots) }
+    ensures local { OnOk result (IsLocallyDelaunay (net_in mesh.new.slots)) }
+{
+    match locate(mesh, place, hint) {
+        Spot::Corner(slot, corner) => {
+            let point = number_of(mesh, slot, corner, place);
+            remove_at(mesh, point, slot, alloc)
+        }
+        Spot::Inside(slot) => Ok(slot),
+        Spot::OnEdge(slot, _) => Ok(slot),
+    }
+}
+
+// Each walk begins where the last point was taken out.
+pub fn thin(alloc: Global, mesh: &mut Mesh, points: &[Place]) -> Result<(), AllocError>
+    requires sheet { IsSheetMesh mesh.old.slots }
+    requires local { IsLocallyDelaunay (net_in mesh.old.slots) }
+{
+    let mut hint = 0;
+    for p in points {
+        hint = remove(mesh, *p, hint, alloc)?;
+    }
+    Ok(())
+}
+EOF
+
 proofs=$folder/crates/mesh_bench/proofs/grow
 mkdir -p "$proofs/insert"
 cat > "$proofs/insert/Answers.antt" <<'EOF'
@@ -306,7 +433,7 @@ use Rattle.mesh_bench.proofs.grow.insert.Goals as goal
 pub legalize-requires-clause-suspects : goal.legalize-requires-clause-suspects
 legalize-requires-clause-suspects c = c.in_ok-slot.ensures.suspects (λ s k n x. inl (delaunay_legal c.args.mesh.now.slots c.requires.sheet c.requires.local s k n x))
 EOF
-for way in grow grow_by_grid grow_shared; do
+for way in grown grow_by_grid grow_shared; do
     mkdir -p "$proofs/$way"
     cat > "$proofs/$way/Invariants.antt" <<EOF
 use Rattle.predicates.specs.Sheet.{IsLocallyDelaunay}
@@ -318,8 +445,19 @@ invariant-loop-p l = IsSheetMesh l.mesh.slots × IsLocallyDelaunay (net_in l.mes
 EOF
 done
 
+mkdir -p "$folder/crates/mesh_bench/proofs/thin/thin"
+cat > "$folder/crates/mesh_bench/proofs/thin/thin/Invariants.antt" <<'EOF'
+use Rattle.predicates.specs.Sheet.{IsLocallyDelaunay}
+use Rattle.mesh.specs.Sheets.{IsSheetMesh, net_in}
+use Rattle.mesh_bench.proofs.thin.thin.Given as goal
+
+abbrev pub invariant-loop-p : goal.invariant-loop-p
+invariant-loop-p l = IsSheetMesh l.mesh.slots × IsLocallyDelaunay (net_in l.mesh.slots)
+EOF
+
 cat > "$folder/peer.cpp" <<'EOF'
-// Inserts the same points one by one into CGAL's constrained Delaunay triangulation, and prints the processor time.
+// Inserts the same points one by one into CGAL's constrained Delaunay triangulation, or takes the same ones out of it,
+// and prints the processor time.
 #include <CGAL/Constrained_Delaunay_triangulation_2.h>
 #include <CGAL/Exact_predicates_inexact_constructions_kernel.h>
 #include <algorithm>
@@ -355,7 +493,7 @@ static uint64_t along(uint32_t x, uint32_t y) {
 
 static std::vector<Place> points_of(const std::string& way, uint32_t count) {
     std::vector<Place> points;
-    if (way == "grid") {
+    if (way == "grid" || way == "rows") {
         for (int32_t e = 0; e < 1000; e++)
             for (int32_t n = 0; n < 1000; n++)
                 if ((uint32_t)(e * 1000 + n) < count) points.push_back({ e * 1000, n * 1000 });
@@ -379,9 +517,25 @@ static std::vector<Place> points_of(const std::string& way, uint32_t count) {
 
 static double now() { timespec t; clock_gettime(CLOCK_PROCESS_CPUTIME_ID, &t); return t.tv_sec * 1e6 + t.tv_nsec / 1e3; }
 
+static int thin(const std::string& way, const std::vector<Place>& points) {
+    Triangulation mesh;
+    Triangulation::Vertex_handle last;
+    std::vector<Triangulation::Vertex_handle> chosen;
+    for (size_t k = 0; k < points.size(); k++) {
+        const Place& p = points[k];
+        last = mesh.insert(Kernel::Point_2(p.e, p.n), last == Triangulation::Vertex_handle() ? Triangulation::Face_handle() : last->face());
+        if (way == "rows" ? p.n % 10000 == 0 : k % 10 == 0) chosen.push_back(last);
+    }
+    const double start = now();
+    for (auto vertex : chosen) mesh.remove(vertex);
+    printf("%.0f %zu\n", now() - start, (size_t)mesh.number_of_faces());
+    return 0;
+}
+
 int main(int, char** words) {
     const std::string way = words[1];
     const std::vector<Place> points = points_of(way, (uint32_t)atoi(words[2]));
+    if (way == "tenths" || way == "rows") return thin(way, points);
     std::vector<Triangulation::Vertex_handle> hints(65536);
     const double start = now();
     Triangulation mesh;
@@ -416,6 +570,7 @@ ours=$folder/crates/mesh_bench/out/mesh_bench
 
 python3 - "$ours" "$peer" <<'EOF'
 # Each case is run three times in turn by both, and the least time counts.
+# MESH_BENCH_ONLY has the ways to run, all without it.
 import os
 import sys
 
@@ -431,15 +586,19 @@ def run(program, way, count):
     _, status, usage = os.wait4(child, 0)
     if status != 0 or not text.split():
         sys.exit("%s failed over %s %d" % (program, way, count))
-    return float(text.split()[0]) / count, usage.ru_maxrss / 1024
+    return float(text.split()[0]) / (count // 10 if way in THINNED else count), usage.ru_maxrss / 1024
 
+THINNED = ("tenths", "rows")
 CASES = [("curve", 10_000), ("curve", 100_000), ("curve", 1_000_000), ("random", 10_000), ("random", 100_000),
-         ("random", 1_000_000), ("grid", 1_000_000), ("shared", 10_000), ("shared", 100_000), ("shared", 1_000_000)]
+         ("random", 1_000_000), ("grid", 1_000_000), ("shared", 10_000), ("shared", 100_000), ("shared", 1_000_000), ("tenths", 100_000), ("rows", 100_000)]
 
 ours, peer = sys.argv[1:3]
 print("| order | points | a point, in microseconds | CGAL | ratio | memory, in megabytes | CGAL |")
 print("|---|---|---|---|---|---|---|")
+only = os.environ.get("MESH_BENCH_ONLY", "").split()
 for way, count in CASES:
+    if only and way not in only:
+        continue
     other = "curve" if way == "shared" else way
     rounds = [(run(ours, way, count), run(peer, other, count) if peer else None) for _ in range(3)]
     time, memory = min(mine for mine, _ in rounds)
