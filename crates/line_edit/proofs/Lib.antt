@@ -1,5 +1,12 @@
 pub mod Gathered
 pub mod Gathers
+pub mod Later
+pub mod Leaves
+pub mod Marches
 pub mod Numbers
+pub mod Overs
+pub mod Remains
 pub mod Sought
 pub mod Taken
+pub mod Ways
+pub mod Wedges

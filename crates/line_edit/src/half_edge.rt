@@ -55,3 +55,18 @@ pub(crate) fn place_of(mesh: &Mesh, point: PointId) -> Place
         None => unreachable!(),
     }
 }
+
+/// The place at which a half-edge begins.
+pub(crate) fn start_of(mesh: &Mesh, at: HalfEdge) -> Place
+    requires corner { (p : Coords) × IsCornerOf mesh.now.slots at.slot at.edge p }
+    ensures { IsCornerOf mesh.now.slots at.slot at.edge result }
+{
+    let Some(t) = mesh.triangle(at.slot) else {
+        unreachable!()
+    };
+    let seen = seen_from(&t, at.edge);
+    match place_at(seen.a) {
+        Some(place) => place,
+        None => unreachable!(),
+    }
+}

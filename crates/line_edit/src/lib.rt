@@ -2,13 +2,17 @@
 //! It never searches the mesh: it goes round a point, or from a point along a straight way.
 #![tactic(auto)]
 
+mod ahead;
 mod between;
 mod half_edge;
 mod pieces;
 mod remove;
+mod sides;
 mod spoke;
+mod way;
 
 pub use between::edge_between;
 pub use half_edge::HalfEdge;
 pub use pieces::{PieceEnd, pieces_at};
 pub use remove::remove_piece;
+pub use way::points_along;
