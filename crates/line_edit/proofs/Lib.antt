@@ -1,3 +1,5 @@
+pub mod Cuts
+pub mod Firsts
 pub mod Gathered
 pub mod Gathers
 pub mod Later
@@ -5,6 +7,8 @@ pub mod Leaves
 pub mod Marches
 pub mod Numbers
 pub mod Overs
+pub mod Passed
+pub mod Passes
 pub mod Remains
 pub mod Sought
 pub mod Taken

@@ -1,6 +1,6 @@
 -- The points that a march has met.
-use Rattle.std.proofs.Common.{◌≡◌, ◌<◌, ◌++◌, ◌/◌, ◌%◌, ℕ, List, [], ◌∷◌, refl, sym, subst, ◌∙◌, inl, inr, arith}
-use Rattle.std.specs.Prelude.{ℤ, pos, true, ◌-ℤ◌, ◌*ℤ◌, ◌<ℤ◌, ◌≤ℤ◌, unsigned_abs}
+use Rattle.std.proofs.Common.{◌≡◌, ◌⊎◌, ◌<◌, ◌++◌, Option, Some, None, ◌/◌, ◌%◌, ℕ, List, [], ◌∷◌, refl, sym, subst, ◌∙◌, inl, inr, arith}
+use Rattle.std.specs.Prelude.{ℤ, pos, true, ◌-ℤ◌, ◌*ℤ◌, ◌<ℤ◌, ◌≤ℤ◌, unsigned_abs, IfSome, IfNone}
 use Rattle.std.proofs.lemmas.Int.{ints, by_lt_z}
 use Rattle.ground_model.specs.Line.{is_point}
 use Rattle.ground_model.specs.Place.{Coords}
@@ -18,7 +18,10 @@ use Rattle.mesh.proofs.NetOfMesh.{net_law}
 use Rattle.locate.specs.Facets.{IsCornerOf}
 use Rattle.point_edit.specs.Removals.{IsPointOf}
 use Rattle.point_edit.proofs.Looks.{standing_of}
+use Rattle.line_edit.specs.Crossings.{IsMetFrom}
+use Rattle.line_edit.specs.declared.half_edge.HalfEdge.{HalfEdge}
 use Rattle.line_edit.specs.Ways.{IsPast, IsNextOn, IsWay}
+use Rattle.line_edit.proofs.Firsts.{met_start, met_on}
 use Rattle.line_edit.proofs.Ways.{times_zero}
 
 -- ---- identities: p, q, x, y have numbers 0 to 3
@@ -96,22 +99,33 @@ way_on net p q v [] w x way next = (subst (λ (z : Coords). IsNextOn net p q z x
 way_on net p q v (y ∷ ys) w x way next = (way.0, way_on net p q y ys w x way.1 next)
 
 -- the points that were met up to v, where a half-edge begins
-pub record IsUpTo (slots : List State) (p q v : Coords) (s k : ℕ) (found : List Coords) : Type 0 where
+pub record IsUpTo (slots : List State) (p q v : Coords) (s k : ℕ) (found : List Coords) (met : Option HalfEdge) : Type 0 where
   pub way : IsWayTo (net_in slots) p q p found v
   pub corner : IsCornerOf slots s k v
   pub on : side p q v ≡ pos 0
+  pub begun : (p ≡ v) ⊎ (along p q p <ℤ along p q v)
+  pub met_is : IsMetFrom slots p q p v met
   pub past : (v ≡ q → ⊥) → IsPast p q v q
 
-pub up_to_start : (slots : List State) (p q : Coords) (s k : ℕ) → IsCornerOf slots s k p → IsUpTo slots p q p s k []
-up_to_start slots p q s k corner = record { way = refl; corner = corner; on = flat_ca p q p refl; past = some_way p q }
+pub up_to_start : (slots : List State) (p q : Coords) (s k : ℕ) → IsCornerOf slots s k p → IsUpTo slots p q p s k [] None
+up_to_start slots p q s k corner = record { way = refl; corner = corner; on = flat_ca p q p refl; begun = inl refl; met_is = met_start slots p q; past = some_way p q }
 
-module _ (slots : List State) (p q v : Coords) (s k : ℕ) (found : List Coords) (old : IsUpTo slots p q v s k found) (goal : is_point (net_in slots).points q ≡ true) (differ : v ≡ q → ⊥)
+module _ (slots : List State) (p q v : Coords) (s k : ℕ) (found : List Coords) (met : Option HalfEdge) (old : IsUpTo slots p q v s k found met) (goal : is_point (net_in slots).points q ≡ true) (differ : v ≡ q → ⊥)
     (x : Coords) (next : IsNextOn (net_in slots) p q v x) where
   at_most : along p q x ≤ℤ along p q q
   at_most = next.first q goal (old.past differ)
 
-  pub up_to_next : (n j : ℕ) → IsCornerOf slots n j x → IsUpTo slots p q x n j (found ++ x ∷ [])
-  up_to_next n j corner = record {
+  start_before : (p ≡ v) ⊎ (along p q p <ℤ along p q v) → along p q p <ℤ along p q x
+  start_before (inl e) = subst (λ (z : Coords). along p q z <ℤ along p q x) (sym e) next.past.farther
+  start_before (inr lt) = through (along p q p) (along p q v) (along p q x) lt next.past.farther
+    where
+      through : (a b c : ℤ) → a <ℤ b → b <ℤ c → a <ℤ c
+      through a b c h k = omega (arith, ints, h, k)
+
+  pub up_to_next : (n j : ℕ) → IsCornerOf slots n j x → (now new : Option HalfEdge) → IsMetFrom slots p q v x now → IfSome met (λ y. new ≡ Some y) → IfNone met (new ≡ now) → IsUpTo slots p q x n j (found ++ x ∷ []) new
+  up_to_next n j corner now new told kept is = record {
+    begun = inr (start_before old.begun);
+    met_is = met_on slots p q v x old.on old.begun met now new old.met_is told kept is;
     way = way_on (net_in slots) p q p found v x old.way next;
     corner = corner;
     on = next.past.line;

@@ -1,4 +1,5 @@
 pub mod Counts
+pub mod Crossings
 pub mod Edges
 pub mod Ends
 pub mod Removals

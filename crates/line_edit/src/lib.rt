@@ -5,14 +5,14 @@
 mod ahead;
 mod between;
 mod half_edge;
+mod march;
 mod pieces;
 mod remove;
 mod sides;
 mod spoke;
-mod way;
 
 pub use between::edge_between;
 pub use half_edge::HalfEdge;
+pub use march::{Way, way_between};
 pub use pieces::{PieceEnd, pieces_at};
 pub use remove::remove_piece;
-pub use way::points_along;
