@@ -4,6 +4,8 @@ pub mod Searches
 pub mod Joined
 pub mod SelfCrossings
 pub mod NextPoints
+pub mod Kept
+pub mod Places
 pub mod Ranks
 pub mod Rows
 pub mod EnoughPoints

@@ -42,7 +42,7 @@ pub get_of : (es : List (ℕ × Line)) (q : ℕ) → IsTrue (finmap.is_sorted na
 get_of es q h = maps.get_of nat_cmp es q (T_of _ h) ∙ sym (value_is q es)
 
 -- entries are in order as an index has them
-in_order : (es : List (ℕ × Line)) → IsTrue (finmap.is_sorted nat_cmp es) → IsInOrder es
+pub in_order : (es : List (ℕ × Line)) → IsTrue (finmap.is_sorted nat_cmp es) → IsInOrder es
 in_order es h = in_order_is es (T_of _ h)
 
 put_sorted : (es : List (ℕ × Line)) (k : ℕ) (v : Line) → IsTrue (finmap.is_sorted nat_cmp es) → IsTrue (finmap.is_sorted nat_cmp (put k v es))
@@ -63,7 +63,7 @@ absent es k s none = ap (λ fs. finmap.from_sorted {R = nat_cmp} fs) (none_out k
 
 -- ---- an entry more
 
-below_next : (es : List (ℕ × Line)) (next : ℕ) → All (λ e. e.0 < next) es → AreBelow next es
+pub below_next : (es : List (ℕ × Line)) (next : ℕ) → All (λ e. e.0 < next) es → AreBelow next es
 below_next [] next h = tt
 below_next (e ∷ es) next h = (All-head (λ (x : ℕ × Line). x.0 < next) e es h, below_next es next (All-tail (λ (x : ℕ × Line). x.0 < next) e es h))
 

@@ -1,3 +1,4 @@
+pub mod ByPlace
 pub mod Sound
 pub mod Along
 pub mod Joints

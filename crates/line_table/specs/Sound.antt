@@ -4,6 +4,8 @@ use Rattle.std.specs.List.{All}
 use Rattle.std.specs.Ordering.{nat_cmp}
 use Rattle.std.specs.FinMap as finmap
 use Rattle.ground_model.specs.Line.{Line}
+use Rattle.page_index.specs.Pairs.{Pairs}
+use Rattle.line_table.specs.ByPlace.{IsByPlace}
 
 -- their numbers rise and are below the next one, which is one itself, they are few, each line is short, and this many are their places
 pub record IsSound (entries : List (ℕ × Line)) (next places : ℕ) : Type 0 where
@@ -29,3 +31,8 @@ pub record IsWalk (entries run : List (ℕ × Line)) (front back : ℕ) : Type 0
   pub ordered : front ≤ back
   pub within : back ≤ length entries
   pub at_hand : take (length run) (drop front entries) ≡ run
+
+-- a table's entries are sound, and the index has them by their places
+pub record IsIndexed (entries : List (ℕ × Line)) (index : Pairs (List ℕ)) (next places : ℕ) : Type 0 where
+  pub sound : IsSound entries next places
+  pub by_place : IsByPlace entries index

@@ -18,17 +18,12 @@ use ground_model::{LineId, Place};
 use std::alloc::AllocError;
 
 impl Lines {
-    /// The least line that has the place. Its cost is that of the places of all lines up to it.
+    /// The least line that has the place. Its cost is a search by place.
     pub fn holding(&self, place: Place) -> Option<LineId>
         ensures { option_map (λ id. id.0) result ≡ least_where (has_place_of place) self.now }
     {
-        number_of(self.entry_holding(place))
-    }
-
-    fn entry_holding(&self, place: Place) -> Option<(LineId, &Line)>
-        ensures { option_map (λ entry. (entry.0.0, entry.1.now)) result ≡ find (λ entry. has_place_of place entry.1) (finmap.entries self.now.lines) }
-    {
-        self.iter().find(|(_, line)| line.has_place(place))
+        let mut lines = self.at(place);
+        lines.next()
     }
 
     /// The least line with a piece that crosses the segment pq, None exactly where none does. It

@@ -2,11 +2,13 @@
 //! cross. It never asks for a triangulation.
 #![tactic(auto)]
 
+mod by_place;
 mod crossing;
 mod line;
 mod lines;
 mod links;
 mod live;
+mod numbers;
 mod pieces;
 mod segment;
 
@@ -15,3 +17,4 @@ pub use line::Line;
 pub use lines::Lines;
 pub use links::Links;
 pub use live::LiveLines;
+pub use numbers::LinesAt;

@@ -2,11 +2,14 @@
 
 ghost use Rattle.std.specs.Prelude.{◌≡◌, ◌+◌, ◌-◌, ◌^◌, ◌<◌, ◌≤◌, length, option_copied, option_map, IfOk, IfErr, IsOk, None, OnOk, OnErr};
 ghost use Rattle.std.specs.FinMap as finmap;
-ghost use Rattle.ground_model.specs.Table.{no_lines, with_line, without_line, places_together};
+ghost use Rattle.ground_model.specs.Table.{no_lines, numbered, with_line, without_line, places_together};
+ghost use Rattle.line_table.specs.ByPlace.{numbers_with};
 
+use crate::by_place;
 use crate::line::Line;
 use crate::live::LiveLines;
-use ground_model::{LineId, LineKind, Places};
+use crate::numbers::{LinesAt, Numbers};
+use ground_model::{LineId, LineKind, Place, Places};
 use page_index::PageIndex;
 use page_vec::Shared;
 use std::alloc::{AllocError, Global};
@@ -17,6 +20,8 @@ use std::marker::Model;
 #[derive(Drop)]
 pub struct Lines {
     pub(crate) lines: PageIndex<Shared<Line>>,
+    // At each place the numbers of the lines that have it.
+    by_place: PageIndex<Numbers>,
     next: u32,
     places: u64,
     pub(crate) alloc: Global,
@@ -25,7 +30,7 @@ pub struct Lines {
 impl Model for Lines {
     ghost use Rattle.std.specs.FinMap as finmap;
     ghost use Rattle.ground_model.specs.Table.{Table};
-    ghost use Rattle.line_table.specs.Sound.{IsSound};
+    ghost use Rattle.line_table.specs.Sound.{IsIndexed};
     ghost use Rattle.ground_model.specs.Codes.{coded_table};
 
     ghost Value = { Table };
@@ -34,7 +39,7 @@ impl Model for Lines {
 
     ghost view = { λ t. record { lines = finmap.from_sorted t.lines; next = t.next } };
 
-    ghost invariant = { λ t. IsSound t.lines t.next t.places };
+    ghost invariant = { λ t. IsIndexed t.lines t.by_place t.next t.places };
 }
 
 impl Lines {
@@ -44,6 +49,7 @@ impl Lines {
     {
         Lines {
             lines: PageIndex::empty(alloc),
+            by_place: PageIndex::empty(alloc),
             next: 1,
             places: 0,
             alloc,
@@ -74,8 +80,8 @@ impl Lines {
     }
 
     /// Adds a line under the next number, on a copy of the places. Out of memory the table is as
-    /// before, and the places come back. Its cost is that of the copy, of a search by number, and of
-    /// the pages on the way that others hold.
+    /// before, and the places come back; more than 2^24 places are out of memory. Its cost is that of
+    /// the copy, of a search by number and one for each place, with the pages on the way.
     pub fn add(&mut self, kind: LineKind, places: Places) -> Result<LineId, (AllocError, Places)>
         requires few { finmap.len self.old.lines < 65535 }
         requires numbers { self.old.next < 2 ^ 32 - 1 }
@@ -89,8 +95,12 @@ impl Lines {
             return Err((AllocError, places));
         };
         let id = self.next;
+        let Ok(more) = by_place::with_line(&self.by_place, self.alloc, places.as_slice(), id) else {
+            return Err((AllocError, places));
+        };
         match self.lines.set(id as u64, line) {
             Ok(()) => {
+                self.by_place = more;
                 self.next = id + 1;
                 self.places += places.len() as u64;
                 Ok(LineId(id))
@@ -101,8 +111,8 @@ impl Lines {
 
     /// Takes a line out. None exactly for a number that is not live, which takes no memory and never
     /// fails. The places are a copy, since other versions may hold the line; out of memory the table
-    /// is as before. Its cost is that of the copy, of a search by number, and of the pages on the way
-    /// that others hold.
+    /// is as before. Its cost is that of the copy, of a search by number and one for each place, with
+    /// the pages on the way.
     pub fn take(&mut self, id: LineId) -> Result<Option<(LineKind, Places)>, AllocError>
         ensures line { IfOk result (λ found. option_map (λ l. record { kind = l.0; places = l.1 }) found ≡ finmap.get self.old.lines id.0) }
         ensures ok { OnOk result (self.new ≡ without_line self.old id.0) }
@@ -114,7 +124,9 @@ impl Lines {
         };
         let kind = line.get().kind();
         let places = Places::from_slice(self.alloc, line.get().places().as_slice())?;
+        let rest = by_place::without_line(&self.by_place, self.alloc, places.as_slice(), id.0)?;
         self.lines.remove(id.0 as u64)?;
+        self.by_place = rest;
         self.places -= places.len() as u64;
         Ok(Some((kind, places)))
     }
@@ -139,13 +151,22 @@ impl Lines {
         }
     }
 
-    /// A table that equals this one and shares its lines. It costs one reference, whatever the number
-    /// of lines.
+    /// The numbers of the lines that have the place, in order. It takes no memory, and costs a search
+    /// by place.
+    pub fn at(&self, place: Place) -> LinesAt<'_>
+        ensures { result ≡ numbers_with place (numbered self.now) }
+    {
+        by_place::lines_at(&self.by_place, place)
+    }
+
+    /// A table that equals this one and shares its lines. It costs two references, whatever the
+    /// number of lines.
     pub fn share(&self) -> Result<Lines, AllocError>
         ensures { IfOk result (λ t. t ≡ self.now) }
     {
         Ok(Lines {
             lines: self.lines.share()?,
+            by_place: self.by_place.share()?,
             next: self.next,
             places: self.places,
             alloc: self.alloc,

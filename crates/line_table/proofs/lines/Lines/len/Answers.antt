@@ -5,4 +5,4 @@ use Rattle.line_table.proofs.Tables.{entries_of}
 use Rattle.line_table.proofs.lines.Lines.len.Goals as goal
 
 pub returns-clause-len : goal.returns-clause-len
-returns-clause-len c = c.len.ensures.len ∙ sym (finmap.len-entries _ ∙ ap length (entries_of _ c.self.invariant.in_order)) ∙ ap (λ (t : Table). finmap.len t.lines) c.self.view_is
+returns-clause-len c = c.len.ensures.len ∙ sym (finmap.len-entries _ ∙ ap length (entries_of _ c.self.invariant.sound.in_order)) ∙ ap (λ (t : Table). finmap.len t.lines) c.self.view_is

@@ -6,7 +6,7 @@ use Rattle.line_table.proofs.Tables.{get_of}
 use Rattle.line_table.proofs.lines.Lines.line.Goals as goal
 
 pub returns-in-Some : goal.returns-in-Some
-returns-in-Some c = ap Some c.get-in-Some.ensures ∙ c.in-Some.ensures.value ∙ sym (get_of _ c.args.id.0 c.self.invariant.in_order) ∙ ap (λ (t : Table). finmap.get t.lines c.args.id.0) c.self.view_is
+returns-in-Some c = ap Some c.get-in-Some.ensures ∙ c.in-Some.ensures.value ∙ sym (get_of _ c.args.id.0 c.self.invariant.sound.in_order) ∙ ap (λ (t : Table). finmap.get t.lines c.args.id.0) c.self.view_is
 
 pub returns-in-None : goal.returns-in-None
-returns-in-None c = c.in-None.ensures.value ∙ sym (get_of _ c.args.id.0 c.self.invariant.in_order) ∙ ap (λ (t : Table). finmap.get t.lines c.args.id.0) c.self.view_is
+returns-in-None c = c.in-None.ensures.value ∙ sym (get_of _ c.args.id.0 c.self.invariant.sound.in_order) ∙ ap (λ (t : Table). finmap.get t.lines c.args.id.0) c.self.view_is

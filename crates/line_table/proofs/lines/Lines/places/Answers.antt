@@ -7,9 +7,9 @@ use Rattle.line_table.proofs.lines.Lines.places.Goals as goal
 
 pub returns-clause-value : goal.returns-clause-value
 returns-clause-value c =
-    c.self.invariant.together
-    ∙ ap (λ (es : List (ℕ × Line)). sum_by (λ (line : Line). length line.places) (map (λ e. e.1) es)) (sym (entries_of _ c.self.invariant.in_order))
+    c.self.invariant.sound.together
+    ∙ ap (λ (es : List (ℕ × Line)). sum_by (λ (line : Line). length line.places) (map (λ e. e.1) es)) (sym (entries_of _ c.self.invariant.sound.in_order))
     ∙ ap places_together c.self.view_is
 
 pub returns-clause-small : goal.returns-clause-small
-returns-clause-small c = omega (arith, places-small _ _ _ c.self.invariant)
+returns-clause-small c = omega (arith, places-small _ _ _ c.self.invariant.sound)

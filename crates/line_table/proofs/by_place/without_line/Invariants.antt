@@ -1,0 +1,8 @@
+use Rattle.std.proofs.Common.{take}
+use Rattle.std.specs.List.{list_any}
+use Rattle.ground_model.specs.Place.{is_same}
+use Rattle.line_table.specs.ByPlace.{IsChangedAt, without_number}
+use Rattle.line_table.proofs.by_place.without_line.Given as goal
+
+abbrev pub invariant-loop-place : goal.invariant-loop-place
+invariant-loop-place l = IsChangedAt (λ p. list_any (is_same p) (take l.place-index l.places)) (without_number l.number) l.index l.rest
