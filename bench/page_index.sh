@@ -149,7 +149,7 @@ fn next_of_index(index: &PageIndex<u32>, keys: &Vec<u64>) -> u64 {
     let mut sum: u64 = 0;
     for key in keys {
         match index.next(key.wrapping_add(1)) {
-            Some((found, _)) => sum = sum.wrapping_add(found),
+            Some((found, _)) => sum = sum.wrapping_add(*found),
             None => {}
         }
     }
@@ -194,7 +194,7 @@ fn ranks_of_index(index: &PageIndex<u32>, count: u32) -> u64 {
     for _i in 0..count {
         x = next(x);
         match index.at(((x >> 33) % (count.max(1) as u64)) as u32) {
-            Some((key, _)) => sum = sum.wrapping_add(key),
+            Some((key, _)) => sum = sum.wrapping_add(*key),
             None => {}
         }
     }

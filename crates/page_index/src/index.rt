@@ -17,13 +17,17 @@ type Third<V> = Node<V, Second<V>>;
 
 type Fourth<V> = Node<V, Third<V>>;
 
+type Fifth<V> = Node<V, Fourth<V>>;
+
+type Sixth<V> = Node<V, Fifth<V>>;
+
 /// A persistent ordered map of at most 2^24 keys: pairs on pages behind `Arc`, which versions of it
 /// share. A version costs one reference, and a change of it copies only the pages on the way to the
 /// key that somebody else still holds; no change is seen in another version.
 #[derive(Drop)]
 pub struct PageIndex<V: Clone> {
     alloc: Global,
-    top: Option<Kid<V, Fourth<V>>>,
+    top: Option<Kid<V, Sixth<V>>>,
 }
 
 impl<V: Clone> Model for PageIndex<V> {

@@ -9,8 +9,9 @@ use crate::level::Level;
 use std::alloc::{AllocError, Global};
 use std::marker::{Model, PhantomData};
 
-// How many pages a node may have below it before it is halved. The page at the top may have more.
-const ROOM: usize = 64;
+// How many pages a node may have below it before it is halved: few, since a change on a shared version
+// copies a reference to each. The page at the top may have more.
+const ROOM: usize = 16;
 
 /// The pages of a part of the index, in order, none of them empty.
 #[derive(Drop)]
