@@ -1,13 +1,13 @@
 //! Reports on documents.
 
-use crate::documents::{CROSSED, FACES, FULL, LINES, TWO};
+use crate::documents::{CROSSED, FACES, FULL, LINES, NOTCHED, TWO};
 use crate::runs::checked;
 use std::alloc::Global;
 use std::process::Abort;
 use std::test::Fail;
 
 // Each row: a document, and how its report ends with what is written.
-const REPORTS: [(&str, &str); 6] = [
+const REPORTS: [(&str, &str); 7] = [
     (
         FULL,
         "Done\nsurface 1 points 4 lines 1 facets 2 faces 2 agree 2 doubles 2 clashes 0 short 0 unit meter origin 4500000.000 500000.000 name EG\nsurfaces 1\n",
@@ -19,6 +19,10 @@ const REPORTS: [(&str, &str); 6] = [
     (
         FACES,
         "Done\nsurface 1 points 4 lines 0 facets 2 faces 2 agree 1 doubles 0 clashes 0 short 0 unit meter origin 0.000 0.000 name t\nsurfaces 1\n",
+    ),
+    (
+        NOTCHED,
+        "Done\nsurface 1 points 4 lines 0 facets 3 faces 2 agree 2 doubles 0 clashes 0 short 0 unit meter origin 0.000 0.000 name h\nsurfaces 1\n",
     ),
     ("<LandXML/>", "Done\nsurfaces 0\n"),
     (CROSSED, "BadSurface\nfault surface 1 2 crosses 1\n"),

@@ -92,3 +92,25 @@ pub(crate) const NAMES: &str =
 <Surface name=\"a\"><SourceData><DataPoints><PntList3D>0 0 3</PntList3D></DataPoints></SourceData></Surface>\n\
 <Surface name=\"Gelände\"><SourceData><DataPoints><PntList3D>0 0 4</PntList3D></DataPoints></SourceData></Surface>\n\
 </Surfaces></LandXML>";
+
+/// A document of a `Definition` alone: the hull of its four points has a notch that no face of it fills.
+pub(crate) const NOTCHED: &str =
+    "<LandXML><Surfaces><Surface name=\"h\"><Definition surfType=\"TIN\"><Pnts>\n\
+<P id=\"1\">0 0 0</P><P id=\"2\">0 10 0</P><P id=\"3\">10 0 0</P><P id=\"4\">3 3 0</P></Pnts>\n\
+<Faces><F>1 2 4</F><F>1 4 3</F></Faces></Definition></Surface></Surfaces></LandXML>";
+
+/// A document of no points, whose name has each character that is escaped.
+pub(crate) const BARE: &str =
+    "<LandXML><Surfaces><Surface name=\"&amp;&lt;&gt;&quot;&apos;\"/></Surfaces></LandXML>";
+
+/// A document of points on one line, which have no facet.
+pub(crate) const COLLINEAR: &str =
+    "<LandXML><Surfaces><Surface name=\"c\"><SourceData><DataPoints><PntList3D>0 0 1 1 1 2 2 2 3 5 5 4</PntList3D></DataPoints></SourceData></Surface></Surfaces></LandXML>";
+
+/// A document with coordinates and levels below 0, some between two thousandths.
+pub(crate) const BELOW: &str =
+    "<LandXML><Surfaces><Surface name=\"b\"><SourceData><DataPoints><PntList3D>-1.0005 -2.5 -3 -10 4 -0.0005 7 -7 0.0004 3 3 -3</PntList3D></DataPoints></SourceData></Surface></Surfaces></LandXML>";
+
+/// A document whose coordinates have twelve digits.
+pub(crate) const FAR: &str =
+    "<LandXML><Surfaces><Surface name=\"f\"><SourceData><DataPoints><PntList3D>999999990.125 -999999980.25 1 999999991.125 -999999980.25 2 999999990.125 -999999979 3</PntList3D></DataPoints></SourceData></Surface></Surfaces></LandXML>";

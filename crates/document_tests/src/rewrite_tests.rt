@@ -1,13 +1,20 @@
 //! Surfaces of documents, written anew.
 
-use crate::documents::{CROSSED, FACES, FULL, LINES, NAMES, TRIANGLE};
-use crate::runs::{ZERO, rewritten};
+ghost use Rattle.landxml_surface.specs.Drafts.{IsRule};
+
+use crate::documents::{
+    BARE, BELOW, COLLINEAR, CROSSED, FACES, FAR, FULL, LINES, NAMES, NOTCHED, TRIANGLE,
+};
+use crate::runs::{AWAY, ZERO, rewritten};
+use landxml_surface::OriginRule;
 use std::alloc::Global;
 use std::process::Abort;
 use std::test::Fail;
 
 // Documents whose surfaces have coordinates near 0 0.
-const DOCUMENTS: [&str; 4] = [TRIANGLE, LINES, FACES, NAMES];
+const DOCUMENTS: [&str; 8] = [
+    TRIANGLE, LINES, FACES, NAMES, NOTCHED, BARE, COLLINEAR, BELOW,
+];
 
 // Each row: the name that is asked for, and the level of the one point of the surface that is found.
 const FOUND: [(&str, &str); 3] = [("a b", "1"), ("a", "2"), ("Gelände", "4")];
@@ -15,15 +22,19 @@ const FOUND: [(&str, &str); 3] = [("a b", "1"), ("a", "2"), ("Gelände", "4")];
 // Names that no surface has.
 const MISSING: [&str; 4] = ["", "b", "a ", "Gel"];
 
-fn written(alloc: Global, document: &str) -> Result<String, Fail> {
-    let found = rewritten(alloc, document.as_bytes(), None, ZERO)?;
+fn written(alloc: Global, document: &str, rule: OriginRule) -> Result<String, Fail>
+    requires { IsRule rule }
+{
+    let found = rewritten(alloc, document.as_bytes(), None, rule)?;
     let text = found.as_str().strip_prefix("Done\n").ok_or("no document")?;
     Ok(String::from_str(alloc, text)?)
 }
 
-fn stays(rt: &impl Abort, alloc: Global, document: &str) -> Result<(), Fail> {
-    let once = written(alloc, document)?;
-    let again = written(alloc, once.as_str())?;
+fn stays(rt: &impl Abort, alloc: Global, document: &str, rule: OriginRule) -> Result<(), Fail>
+    requires { IsRule rule }
+{
+    let once = written(alloc, document, rule)?;
+    let again = written(alloc, once.as_str(), rule)?;
     assert_eq!(rt; again.as_str(), once.as_str());
     Ok(())
 }
@@ -31,9 +42,10 @@ fn stays(rt: &impl Abort, alloc: Global, document: &str) -> Result<(), Fail> {
 #[test]
 fn what_is_written_is_written_so_again(rt: HostRuntime) -> Result<(), Fail> {
     for document in DOCUMENTS {
-        stays(&rt, rt.alloc(), document)?;
+        stays(&rt, rt.alloc(), document, ZERO)?;
     }
-    assert_eq!(&rt; written(rt.alloc(), TRIANGLE)?.as_str(), TRIANGLE);
+    stays(&rt, rt.alloc(), FAR, AWAY)?;
+    assert_eq!(&rt; written(rt.alloc(), TRIANGLE, ZERO)?.as_str(), TRIANGLE);
     Ok(())
 }
 

@@ -19,6 +19,12 @@ pub(crate) const ZERO: OriginRule = OriginRule::Given(Origin {
     e: Thousandths(0),
 });
 
+/// An origin of twelve digits.
+pub(crate) const AWAY: OriginRule = OriginRule::Given(Origin {
+    n: Thousandths(999_999_990_125),
+    e: Thousandths(-999_999_980_250),
+});
+
 // The commands without their clauses, which only make the proofs of their callers slow.
 fn check_of(alloc: Global, source: &mut MemSource, sink: &mut MemSink) -> Ending {
     check(alloc, OriginRule::Nearest, Limits::FULL, source, sink)
