@@ -1,9 +1,11 @@
-//! Tests of the persistent ordered index, over the crate as it is built.
+//! Tests of the persistent ordered index and of the table of points, over the crates as they are built.
 #![tactic(auto)]
 
 #[cfg(test)]
 mod fixtures;
 #[cfg(test)]
 mod orders;
+#[cfg(test)]
+mod points;
 #[cfg(test)]
 mod random_calls;

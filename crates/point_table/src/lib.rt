@@ -1,0 +1,7 @@
+//! The points of a surface.
+#![tactic(auto)]
+
+mod points;
+mod vertex;
+
+pub use points::Points;
