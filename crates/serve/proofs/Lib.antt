@@ -1,3 +1,5 @@
 mod Turns
 mod Sessions
 mod Wires
+mod Surfaces
+pub mod Authors

@@ -1,3 +1,4 @@
 pub mod AtDesk
 pub mod Served
 pub mod Doors
+pub mod Surfaces

@@ -5,8 +5,10 @@
 mod at_desk;
 mod gate;
 mod served;
+mod surface;
 mod worker;
 
 pub use gate::{Gate, OpenGate};
 pub use served::serve_session;
+pub use surface::serve_surface;
 pub use worker::{Worker, serve_all};
