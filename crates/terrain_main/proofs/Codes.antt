@@ -2,7 +2,7 @@
 use Rattle.std.proofs.Common.{◌≡◌, ℕ, nat_eq, refl, sym, ap, ◌∙◌}
 use Rattle.std.specs.Prelude.{if◌then◌else◌}
 use Rattle.terrain_main.specs.declared.status.Status.{Status}
-use Rattle.terrain_main.specs.declared.status.Status.TheVariants.{Ok, Usage, BadDocument, ReadFault, WriteFault, Memory, TooLarge, BadSurface, Spent, LongLine, Cut}
+use Rattle.terrain_main.specs.declared.status.Status.TheVariants.{Ok, Usage, BadDocument, ReadFault, WriteFault, Memory, TooLarge, BadSurface, DoorFault, Spent, LongLine, Cut}
 use Rattle.terrain_main.specs.Commands.{code_of}
 
 -- the status of a number that is one's
@@ -15,6 +15,7 @@ status_of n =
     else if nat_eq n 6 then Memory
     else if nat_eq n 7 then TooLarge
     else if nat_eq n 8 then BadSurface
+    else if nat_eq n 9 then DoorFault
     else if nat_eq n 10 then Spent
     else if nat_eq n 11 then LongLine
     else if nat_eq n 12 then Cut
@@ -29,6 +30,7 @@ told_apart WriteFault = refl
 told_apart Memory = refl
 told_apart TooLarge = refl
 told_apart BadSurface = refl
+told_apart DoorFault = refl
 told_apart Spent = refl
 told_apart LongLine = refl
 told_apart Cut = refl

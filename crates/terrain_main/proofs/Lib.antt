@@ -3,3 +3,5 @@ pub mod Codes
 pub mod Wholes
 pub mod Trials
 pub mod Wordings
+pub mod Made
+pub mod Idle

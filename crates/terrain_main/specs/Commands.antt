@@ -1,5 +1,5 @@
 -- Which words are a command, and how the program ends.
-use Rattle.std.specs.Prelude.{◌≡◌, ℕ, ℤ, Bool, true, false, option_map, ◌-◌, ◌^◌, ◌&&◌, nat_le, if◌then◌else◌, List, [], ◌∷◌, ◌++◌, codes, string_bytes, bytes_eq, Option, None, Some, Result}
+use Rattle.std.specs.Prelude.{◌≡◌, ℕ, ℤ, Bool, true, false, option_map, ◌-◌, ◌^◌, ◌&&◌, nat_le, nat_eq, ◌+◌, if◌then◌else◌, List, [], ◌∷◌, ◌++◌, codes, string_bytes, bytes_eq, Option, None, Some, Result}
 use Rattle.std.specs.Fmt.{decimal}
 use Rattle.std.specs.Str.Parse.{digits_value}
 use Rattle.std.specs.Io.KnownBytes.{Appends}
@@ -22,6 +22,7 @@ use Rattle.trial.specs.declared.report.Report.{Report}
 use Rattle.trial.specs.Trials.{IsReport}
 use Rattle.trial.specs.Texts.{report_text}
 use Rattle.terrain_main.specs.declared.words.Command.{Command}
+use Rattle.terrain_main.specs.declared.words.Listen.{Listen}
 use Rattle.terrain_main.specs.declared.words.Command.TheVariants as commands
 use Rattle.terrain_main.specs.declared.status.Status.{Status}
 use Rattle.terrain_main.specs.declared.status.Status.TheVariants as statuses
@@ -120,6 +121,52 @@ command_of (word ∷ options) =
     else (if is_word (codes "rewrite") word then rewrite_by (rule_beside options)
     else trial_in (word ∷ options))
 
+-- the number, where it isn't 0
+abbrev pub at_least_one : Option ℕ → Option ℕ
+at_least_one None = None
+at_least_one (Some n) = if nat_eq n 0 then None else Some n
+
+-- a whole number from 1 to `most`, as it is written
+abbrev pub count_of : ℕ → List ℕ → Option ℕ
+count_of most word = at_least_one (whole_of most word)
+
+-- the numbers, where all are there and the last port is at most 65,535
+abbrev pub listen_at : Option ℕ → Option ℕ → Option ℕ → Option Listen
+listen_at None workers sessions = None
+listen_at (Some port) None sessions = None
+listen_at (Some port) (Some workers) None = None
+listen_at (Some port) (Some workers) (Some sessions) = if nat_le (port + workers) 65536 then Some (record { port = port; workers = workers; sessions = sessions }) else None
+
+-- a first port, 1 to 16 workers, and 1 to 1,000,000 sessions of each
+abbrev pub listen_of : List ℕ → List ℕ → List ℕ → Option Listen
+listen_of port workers sessions = listen_at (count_of 65535 port) (count_of 16 workers) (count_of 1000000 sessions)
+
+-- the numbers and the origin, where both are there
+abbrev pub serving_by : Option Listen → Option OriginRule → Option (Listen × OriginRule)
+serving_by None rule = None
+serving_by (Some listen) None = None
+serving_by (Some listen) (Some rule) = Some (listen, rule)
+
+-- the numbers and the origin of a `serve` command
+abbrev pub serving_of : List (String Global) → Option (Listen × OriginRule)
+serving_of [] = None
+serving_of (word ∷ []) = None
+serving_of (word ∷ port ∷ []) = None
+serving_of (word ∷ port ∷ workers ∷ []) = None
+serving_of (word ∷ port ∷ workers ∷ sessions ∷ options) = if is_word (codes "serve") word then serving_by (listen_of (string_bytes port) (string_bytes workers) (string_bytes sessions)) (rule_beside options) else None
+
+-- the numbers of a `serve` command
+abbrev pub serve_words : List (String Global) → Option Listen
+serve_words words = option_map (λ s. s.0) (serving_of words)
+
+-- the name that the words of `serve` ask for
+abbrev pub serve_name : List (String Global) → Option (List ℕ)
+serve_name [] = None
+serve_name (word ∷ []) = None
+serve_name (word ∷ port ∷ []) = None
+serve_name (word ∷ port ∷ workers ∷ []) = None
+serve_name (word ∷ port ∷ workers ∷ sessions ∷ options) = name_in options
+
 -- whether the command reads
 abbrev pub reads_input : Option Command → Bool
 reads_input None = false
@@ -139,6 +186,7 @@ puts_line statuses.Ok = false
 puts_line statuses.ReadFault = false
 puts_line statuses.WriteFault = false
 puts_line statuses.Memory = false
+puts_line statuses.DoorFault = false
 puts_line statuses.Spent = false
 puts_line statuses.LongLine = false
 puts_line statuses.Cut = false
@@ -163,6 +211,7 @@ code_of statuses.WriteFault = 5
 code_of statuses.Memory = 6
 code_of statuses.TooLarge = 7
 code_of statuses.BadSurface = 8
+code_of statuses.DoorFault = 9
 code_of statuses.Spent = 10
 code_of statuses.LongLine = 11
 code_of statuses.Cut = 12
@@ -210,6 +259,7 @@ RunsTrial seed count before after statuses.BadDocument = ⊥
 RunsTrial seed count before after statuses.TooLarge = ⊥
 RunsTrial seed count before after statuses.BadSurface = ⊥
 RunsTrial seed count before after statuses.ReadFault = ⊥
+RunsTrial seed count before after statuses.DoorFault = ⊥
 RunsTrial seed count before after statuses.Spent = ⊥
 RunsTrial seed count before after statuses.LongLine = ⊥
 RunsTrial seed count before after statuses.Cut = ⊥

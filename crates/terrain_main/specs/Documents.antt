@@ -46,7 +46,7 @@ row words = words ++ 10 ∷ []
 
 -- the words of each command, a line each
 unfoldable pub help_text : List ℕ
-help_text = row (codes "check [--origin N E]") ++ row (codes "rewrite [--surface NAME] [--origin N E]") ++ row (codes "talk") ++ row (codes "trial SEED COUNT") ++ row (codes "help")
+help_text = row (codes "check [--origin N E]") ++ row (codes "rewrite [--surface NAME] [--origin N E]") ++ row (codes "talk") ++ row (codes "trial SEED COUNT") ++ row (codes "help") ++ row (codes "serve PORT WORKERS SESSIONS [--surface NAME] [--origin N E]")
 
 -- how the list of commands is written
 abbrev pub RunsHelp : Stream → Stream → Status → Type 0
@@ -58,6 +58,7 @@ RunsHelp before after statuses.ReadFault = ⊥
 RunsHelp before after statuses.Memory = ⊥
 RunsHelp before after statuses.TooLarge = ⊥
 RunsHelp before after statuses.BadSurface = ⊥
+RunsHelp before after statuses.DoorFault = ⊥
 RunsHelp before after statuses.Spent = ⊥
 RunsHelp before after statuses.LongLine = ⊥
 RunsHelp before after statuses.Cut = ⊥

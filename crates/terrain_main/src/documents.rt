@@ -12,6 +12,10 @@ use ground_model::Limits;
 use landxml_surface::OriginRule;
 use std::alloc::Global;
 
+/// The words of each command, a line each.
+const HELP: &[u8] = b"check [--origin N E]\nrewrite [--surface NAME] [--origin N E]\ntalk\n\
+    trial SEED COUNT\nhelp\nserve PORT WORKERS SESSIONS [--surface NAME] [--origin N E]\n";
+
 /// Reports on a document.
 pub(crate) fn run_check<I: Source, O: Sink>(
     alloc: Global,
@@ -44,9 +48,7 @@ pub(crate) fn run_rewrite<I: Source, O: Sink>(
 pub(crate) fn run_help<O: Sink>(output: &mut O) -> Status
     ensures { RunsHelp (stream (O.written output.old) (O.write_faults output.old)) (stream (O.written output.new) (O.write_faults output.new)) result }
 {
-    let text =
-        b"check [--origin N E]\nrewrite [--surface NAME] [--origin N E]\ntalk\ntrial SEED COUNT\nhelp\n";
-    match write_all(output, text) {
+    match write_all(output, HELP) {
         Ok(()) => Status::Ok,
         Err(_) => Status::WriteFault,
     }

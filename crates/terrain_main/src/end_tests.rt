@@ -63,7 +63,7 @@ rewrite --surface a --origin 4 5||<LandXML/>|3;fault document 10 no-surface;
 rewrite --origin 4 5 --surface a||<LandXML/>|3;fault document 10 no-surface;
 rewrite --surface||<LandXML/>|2;fault usage;
 rewrite --surface a --surface b||<LandXML/>|2;fault usage;
-help||stat;|0;check [--origin N E];rewrite [--surface NAME] [--origin N E];talk;trial SEED COUNT;help;
+help||stat;|0;check [--origin N E];rewrite [--surface NAME] [--origin N E];talk;trial SEED COUNT;help;serve PORT WORKERS SESSIONS [--surface NAME] [--origin N E];
 help|write 1|stat;|5;
 help help||stat;|2;fault usage;
 talk|read 1|stat;|4;

@@ -25,6 +25,9 @@ pub enum Status {
     TooLarge,
     /// A surface of the document can't be loaded. The fault line was written, or a beginning of it.
     BadSurface,
+    /// The server's last line was written, and a port couldn't be opened, or a connection couldn't be
+    /// accepted.
+    DoorFault,
     /// The session read all the bytes that one session may read.
     Spent,
     LongLine,
@@ -45,6 +48,7 @@ impl Status {
             Status::Memory => 6,
             Status::TooLarge => 7,
             Status::BadSurface => 8,
+            Status::DoorFault => 9,
             Status::Spent => 10,
             Status::LongLine => 11,
             Status::Cut => 12,

@@ -1,9 +1,9 @@
 //! What the words of the command line ask for.
 
-ghost use Rattle.std.specs.Prelude.{◌≡◌, ◌≤◌, ◌&&◌, ℕ, Some, None, nat_le, bytes_eq, codes, if◌then◌else◌, IfSome, option_map};
+ghost use Rattle.std.specs.Prelude.{◌≡◌, ◌<◌, ◌≤◌, ◌+◌, ◌&&◌, ℕ, Some, None, nat_le, bytes_eq, codes, if◌then◌else◌, IfSome, option_map};
 ghost use Rattle.std.specs.Fmt.{decimal};
 ghost use Rattle.terrain_main.specs.declared.words.Command.TheVariants as commands;
-ghost use Rattle.terrain_main.specs.Commands.{whole_of, trial_of, is_word as is_word_of, origin_of as origin_by, origin_after as origin_after_of, rule_of as rule_by, rule_of_both as rule_of_both_of, rule_beside as rule_beside_of, name_of as name_by, trial_in, command_of as command_by};
+ghost use Rattle.terrain_main.specs.Commands.{whole_of, trial_of, is_word as is_word_of, origin_of as origin_by, origin_after as origin_after_of, rule_of as rule_by, rule_of_both as rule_of_both_of, rule_beside as rule_beside_of, name_of as name_by, trial_in, command_of as command_by, count_of, listen_of as listen_by, serving_of as serving_by_words, serve_words as serve_by, serve_name as serve_name_by};
 ghost use Rattle.landxml_surface.specs.declared.origin.OriginRule.{OriginRule as Rule};
 ghost use Rattle.landxml_surface.specs.Drafts.{IsRule};
 ghost use Rattle.landxml_surface.specs.declared.origin.OriginRule.TheVariants.{Nearest};
@@ -15,6 +15,24 @@ use line_protocol::read_number;
 
 /// The most points that a trial draws.
 const MOST_DRAWN: u64 = 100_000;
+
+/// The most workers of a server.
+const MOST_WORKERS: u64 = 16;
+
+/// The most sessions of a worker.
+const MOST_SESSIONS: u64 = 1_000_000;
+
+/// The highest port.
+const LAST_PORT: u64 = 65_535;
+
+/// What a `serve` command asks for: the first port, the number of workers, each at the port after the
+/// one before it, and the number of sessions of each.
+#[derive(Clone, Copy, Debug, PartialEq, Eq)]
+pub struct Listen {
+    pub port: u16,
+    pub workers: u16,
+    pub sessions: u32,
+}
 
 /// A command of the program.
 #[derive(Clone, Copy, Debug, PartialEq, Eq)]
@@ -185,5 +203,70 @@ pub(crate) fn command_of(words: &[String]) -> Option<Command>
             Some(Command::Rewrite(rule_beside(options)?))
         }
         _ => other_command(words),
+    }
+}
+
+// The whole number from 1 to `most` that the word is.
+fn count(word: &str, most: u64) -> Option<u64>
+    ensures value { result ≡ count_of most word.now }
+    ensures range { IfSome result (λ n. (0 < n) × (n ≤ most)) }
+{
+    match whole_number(word, most)? {
+        0 => None,
+        number => Some(number),
+    }
+}
+
+// The ports and the sessions of three words.
+fn listen_of(port: &str, workers: &str, sessions: &str) -> Option<Listen>
+    ensures value { result ≡ listen_by port.now workers.now sessions.now }
+    ensures workers { IfSome result (λ l. (0 < l.workers) × (l.workers ≤ 16)) }
+    ensures ports { IfSome result (λ l. l.port + l.workers ≤ 65536) }
+{
+    let port = count(port, LAST_PORT)?;
+    let workers = count(workers, MOST_WORKERS)?;
+    let sessions = count(sessions, MOST_SESSIONS)?;
+    if port + workers > LAST_PORT + 1 {
+        return None;
+    }
+    Some(Listen {
+        port: port as u16,
+        workers: workers as u16,
+        sessions: sessions as u32,
+    })
+}
+
+/// The numbers and the origin of a `serve` command.
+pub(crate) fn serving_of(words: &[String]) -> Option<(Listen, OriginRule)>
+    ensures value { result ≡ serving_by_words words.now }
+    ensures rule { IfSome result (λ s. IsRule s.1) }
+    ensures workers { IfSome result (λ s. (0 < s.0.workers) × (s.0.workers ≤ 16)) }
+    ensures ports { IfSome result (λ s. s.0.port + s.0.workers ≤ 65536) }
+{
+    match words {
+        [word, port, workers, sessions, options @ ..] if is_word("serve", word) => {
+            let listen = listen_of(port.as_str(), workers.as_str(), sessions.as_str())?;
+            Some((listen, rule_beside(options)?))
+        }
+        _ => None,
+    }
+}
+
+/// The numbers of a `serve` command, where the words are one. It takes no memory.
+pub fn serve_words(words: &[String]) -> Option<Listen>
+    ensures value { result ≡ serve_by words.now }
+    ensures ports { IfSome result (λ listen. listen.port + listen.workers ≤ 65536) }
+{
+    let (listen, _rule) = serving_of(words)?;
+    Some(listen)
+}
+
+/// The name of the surface that the words of `serve` ask for.
+pub(crate) fn serve_name(words: &[String]) -> Option<&[u8]>
+    ensures { option_map (λ name. name.now) result ≡ serve_name_by words.now }
+{
+    match words {
+        [_, _, _, rest @ ..] => name_of(rest),
+        _ => None,
     }
 }
